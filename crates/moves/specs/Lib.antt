@@ -1,0 +1,4 @@
+pub mod Buffers
+pub mod Fans
+pub mod Spelled
+pub mod Spelling

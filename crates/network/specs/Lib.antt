@@ -1,0 +1,4 @@
+pub mod Wires
+pub mod Refusals
+pub mod Drafts
+pub mod Networks

@@ -1,0 +1,28 @@
+// A network that is being built.
+ghost use mathlib.Core.Path.{_≡_};
+ghost use mathlib.Core.Bool.{true};
+ghost use Prim.Native.Nat.{_≤_};
+ghost use Rattle.std.specs.Of.Vec.{vec-items, vec-len};
+ghost use Rattle.network.specs.Wires.{body-of, grown, steps-of, no-wires, valid, all-below};
+use crate::wire::Node;
+use crate::wire::Wire;
+use std::alloc::Global;
+
+mod ops;
+
+#[derive(Drop)]
+pub struct Draft {
+    heap: Global,
+    inputs: u16,
+    wires: Vec<Wire>,
+    nodes: Vec<Node>,
+    outputs: Vec<u16>,
+    ghost some_input: { 1 ≤ inputs },
+    ghost input_limit: { inputs ≤ 64 },
+    ghost wire_limit: { vec-len wires ≤ 1024 },
+    ghost node_limit: { vec-len nodes ≤ 192 },
+    ghost output_limit: { vec-len outputs ≤ 64 },
+    ghost by_the_rules: { ∥ grown inputs no-wires (steps-of (vec-items wires)) ≡ body-of (vec-items wires) (vec-items nodes) ∥₁ },
+    ghost reads_earlier: { valid inputs 0 (steps-of (vec-items wires)) ≡ true },
+    ghost outputs_exist: { all-below (vec-items outputs) (vec-len wires) ≡ true },
+}

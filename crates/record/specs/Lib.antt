@@ -1,0 +1,6 @@
+pub mod Refusals
+pub mod Bytes
+pub mod Fitting
+pub mod Records
+pub mod Blocks
+pub mod RecordLaws

@@ -1,0 +1,4 @@
+pub mod Chains
+pub mod Fitting
+pub mod Going
+pub mod Offers
