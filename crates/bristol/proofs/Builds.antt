@@ -1,22 +1,22 @@
 -- What a draft's answers say of the answer that is defined.
-use mathlib.Core.Path.{_≡_, refl, sym, ap, _∙_}
+use mathlib.Core.Path.{_≡_, refl, ap, _∙_}
 use mathlib.Core.Bool.{cond}
-use mathlib.Core.List.{List, [], _∷_, _++_}
+use mathlib.Core.List.{[], _∷_, _++_}
 use mathlib.Core.Logic.{inl, inr, ⊎-elim}
 use Prim.Native.Nat.{ℕ, _+_}
 use native.Mathlib.Numerals.{add-one}
 use lib.Dec.{ltb}
 use Rattle.std.specs.declared.option.Option.the-variants.{Some, None}
 use Rattle.std.specs.declared.result.Result.{Result}
-use Rattle.std.specs.declared.result.Result.the-variants.{Ok, Err}
-use Rattle.network.specs.Refusals as drafts
-use Rattle.network.specs.declared.refusal.DraftRefusal.{DraftRefusal}
-use Rattle.network.specs.declared.refusal.DraftRefusal.the-variants.{Inputs, WireLimit, NoSuchWire, NodeLimit, OutputLimit, NoOutput, OutOfMemory}
+use Rattle.std.specs.declared.result.Result.the-variants.{Ok}
+use Rattle.refusals.specs.Drafts as drafts
+use Rattle.refusals.specs.declared.draft.DraftRefusal.{DraftRefusal}
+use Rattle.refusals.specs.declared.draft.DraftRefusal.the-variants.{Inputs, WireLimit, NoSuchWire, NodeLimit, OutputLimit, NoOutput, OutOfMemory}
 use Rattle.bristol.specs.Answers.{and-then, Refuses}
 use Rattle.bristol.specs.Building.{unless}
 use Rattle.bristol.specs.Wires.{inputs-given}
-use Rattle.bristol.specs.declared.refusal.TextRefusal.{TextRefusal}
-use Rattle.bristol.specs.declared.refusal.TextRefusal.the-variants.{Draft}
+use Rattle.refusals.specs.declared.text.TextRefusal.{TextRefusal}
+use Rattle.refusals.specs.declared.text.TextRefusal.the-variants.{Draft}
 
 pub wires-more : (n k : ℕ) → inputs-given n (k + 1) ≡ inputs-given n k ++ (cond (ltb k n) (Some k) None ∷ [])
 wires-more n k = ap (inputs-given n) (add-one k)

@@ -3,7 +3,6 @@ use mathlib.Core.Path.{_≡_, sym, ap, _∙_}
 use mathlib.Core.List.{List}
 use Prim.Native.Nat.{ℕ, suc, _+_, _-_, _<_}
 use native.Mathlib.Omega.{arith}
-use Rattle.std.specs.declared.result.Result.{Result}
 use Rattle.std.specs.declared.result.Result.the-variants.{Ok, Err}
 use Rattle.scan.specs.Cuts.{Piece}
 use Rattle.bristol.specs.Answers.{and-then, Refuses}
@@ -11,7 +10,7 @@ use Rattle.bristol.specs.Building.{Building, added}
 use Rattle.bristol.specs.Reading.{Reading, then-read, line-first}
 use Rattle.bristol.specs.Texts.{gates-first}
 use Rattle.bristol.specs.declared.gate.GateLine.{GateLine}
-use Rattle.bristol.specs.declared.refusal.TextRefusal.{TextRefusal}
+use Rattle.refusals.specs.declared.text.TextRefusal.{TextRefusal}
 use Rattle.bristol.proofs.Builds.{refuses-then, refuses-same}
 
 module _ (k i : ℕ) (b : Building) (ps : List Piece) (more : i < k) where

@@ -18,14 +18,15 @@ use Rattle.scan.specs.Cuts.{Piece}
 use Rattle.scan.specs.Numbers.{number-of}
 use Rattle.network.specs.Drafts.{opening, node-due, adding, with-output, marking, sealing}
 use Rattle.network.specs.Wires.{Net, fits, wire-count, node-count, output-count}
-use Rattle.network.specs.declared.refusal.DraftRefusal.the-variants.{OutOfMemory}
+use Rattle.refusals.specs.declared.draft.DraftRefusal.the-variants.{OutOfMemory}
 use Rattle.network.specs.declared.wire.Step.{Step}
 use Rattle.bristol.specs.Answers.{numbered, and-then, Answered}
 use Rattle.bristol.specs.Building.{Building, step-of, unless, opened, with-gate, added, marked, finished}
 use Rattle.bristol.specs.Gates.{arity-of, operation-of, gate-of-two, gate-of-one}
 use Rattle.bristol.specs.Headers.{checked}
-use Rattle.bristol.specs.Reading.{Reading, answer, then-read, worth-or-no, number-first, operation-first, sum-first, width-first, header-first, two-first, one-first, rest-first, line-first, end-first}
-use Rattle.bristol.specs.Refusals.{number, is-too-long}
+use Rattle.bristol.specs.Reading.{Reading, answer, then-read, worth-or-no, number-first, operation-first, sum-first, width-first, header-first, rest-first, line-first, end-first}
+use Rattle.bristol.specs.Refusals.{is-too-long}
+use Rattle.refusals.specs.Texts.{number}
 use Rattle.bristol.specs.Texts.{gates-first, read-pieces}
 use Rattle.bristol.specs.Wires.{both-given, one-given, given-at, open-at, resolved-gate}
 use Rattle.bristol.specs.declared.gate.Arity.{Arity}
@@ -36,8 +37,8 @@ use Rattle.bristol.specs.declared.gate.Operation.{Operation}
 use Rattle.bristol.specs.declared.gate.Operation.the-variants.{Xor, And, Inv}
 use Rattle.bristol.specs.declared.gate.GateLine.{GateLine}
 use Rattle.bristol.specs.declared.header.Header as headers
-use Rattle.bristol.specs.declared.refusal.TextRefusal.{TextRefusal}
-use Rattle.bristol.specs.declared.refusal.TextRefusal.the-variants.{TooLong, Malformed, Header, GateShape, Wiring, Draft}
+use Rattle.refusals.specs.declared.text.TextRefusal.{TextRefusal}
+use Rattle.refusals.specs.declared.text.TextRefusal.the-variants.{TooLong, Malformed, Header, GateShape, Wiring, Draft}
 
 abbrev is-30 : {Y : Type 0} → Result Y ℕ → Bool
 is-30 (Ok y) = false

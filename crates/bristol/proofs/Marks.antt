@@ -1,5 +1,5 @@
 -- Wires marked as outputs one by one, and the network sealed.
-use mathlib.Core.Path.{_≡_, sym, ap, subst, _∙_}
+use mathlib.Core.Path.{_≡_, sym, ap, _∙_}
 use mathlib.Core.List.{List, _∷_}
 use Prim.Native.Nat.{ℕ, _+_, _-_, _<_, _≤_}
 use native.Mathlib.Omega.{arith}
@@ -11,13 +11,13 @@ use Rattle.std.specs.Holes.{between}
 use Rattle.std.proofs.shelf.Lists.{drop-more, drop-all}
 use Rattle.std.proofs.shelf.Parts.{between-to-end}
 use Rattle.network.specs.Drafts.{marking, with-output, sealing}
-use Rattle.network.specs.Refusals as drafts
+use Rattle.refusals.specs.Drafts as drafts
 use Rattle.network.specs.Wires.{Net}
-use Rattle.network.specs.declared.refusal.DraftRefusal.{DraftRefusal}
+use Rattle.refusals.specs.declared.draft.DraftRefusal.{DraftRefusal}
 use Rattle.bristol.specs.Answers.{and-then, Refuses}
 use Rattle.bristol.specs.Building.{unless, marked, finished}
-use Rattle.bristol.specs.declared.refusal.TextRefusal.{TextRefusal}
-use Rattle.bristol.specs.declared.refusal.TextRefusal.the-variants.{Draft}
+use Rattle.refusals.specs.declared.text.TextRefusal.{TextRefusal}
+use Rattle.refusals.specs.declared.text.TextRefusal.the-variants.{Draft}
 use Rattle.bristol.proofs.Builds.{passed, refused, refuses-then, refuses-same}
 
 module _ (s : Net) (ws : List (Option ℕ)) (i : ℕ) (within : i < length ws) where

@@ -5,7 +5,7 @@ use Prim.Native.Nat.{ℕ, suc, _+_, _-_, _<_, _≤_}
 use native.Mathlib.Omega.{arith}
 use Rattle.std.specs.declared.result.Result.the-variants.{Ok, Err}
 use Rattle.scan.specs.Cuts.{Piece}
-use Rattle.bristol.specs.Reading.{Reading, then-read, number-first, sum-first}
+use Rattle.bristol.specs.Reading.{then-read, number-first, sum-first}
 
 module _ (k i s : ℕ) (ps : List Piece) (more : i < k) where
   one-more : sum-first (k - i) s ps ≡ then-read (number-first ps) (λ n rest. sum-first (k - (i + 1)) (s + n) rest)

@@ -4,10 +4,10 @@ use mathlib.Core.Logic.{_⊎_}
 use Prim.Native.Nat.{ℕ}
 use Rattle.std.specs.declared.result.Result.{Result}
 use Rattle.std.specs.declared.result.Result.the-variants.{Ok, Err}
-use Rattle.network.specs.declared.refusal.DraftRefusal.the-variants.{OutOfMemory}
-use Rattle.bristol.specs.Refusals.{number}
-use Rattle.bristol.specs.declared.refusal.TextRefusal.{TextRefusal}
-use Rattle.bristol.specs.declared.refusal.TextRefusal.the-variants.{Draft}
+use Rattle.refusals.specs.declared.draft.DraftRefusal.the-variants.{OutOfMemory}
+use Rattle.refusals.specs.Texts.{number}
+use Rattle.refusals.specs.declared.text.TextRefusal.{TextRefusal}
+use Rattle.refusals.specs.declared.text.TextRefusal.the-variants.{Draft}
 
 -- an answer with its refusal's number
 abbrev pub numbered : {X : Type 0} → Result X TextRefusal → Result X ℕ

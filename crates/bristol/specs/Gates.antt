@@ -13,8 +13,8 @@ use Rattle.bristol.specs.declared.gate.Gate.{Gate}
 use Rattle.bristol.specs.declared.gate.Gate.the-variants as gates
 use Rattle.bristol.specs.declared.gate.Operation.{Operation}
 use Rattle.bristol.specs.declared.gate.Operation.the-variants.{Xor, And, Inv}
-use Rattle.bristol.specs.declared.refusal.TextRefusal.{TextRefusal}
-use Rattle.bristol.specs.declared.refusal.TextRefusal.the-variants.{GateShape}
+use Rattle.refusals.specs.declared.text.TextRefusal.{TextRefusal}
+use Rattle.refusals.specs.declared.text.TextRefusal.the-variants.{GateShape}
 
 -- 2 1 or 1 1
 abbrev pub arity-of : ℕ → ℕ → Result Arity TextRefusal

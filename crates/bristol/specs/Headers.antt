@@ -5,8 +5,8 @@ use lib.Dec.{eqb, leb}
 use Rattle.std.specs.declared.result.Result.{Result}
 use Rattle.std.specs.declared.result.Result.the-variants.{Ok, Err}
 use Rattle.bristol.specs.declared.header.Header as Numbers
-use Rattle.bristol.specs.declared.refusal.TextRefusal.{TextRefusal}
-use Rattle.bristol.specs.declared.refusal.TextRefusal.the-variants.{Header}
+use Rattle.refusals.specs.declared.text.TextRefusal.{TextRefusal}
+use Rattle.refusals.specs.declared.text.TextRefusal.the-variants.{Header}
 
 -- 1 to 64 inputs, 1 to 64 outputs, a wire for each input and gate, at most 1,024 wires, and no more outputs than wires
 abbrev pub checked : Numbers.Header → Result (Unit {0}) TextRefusal

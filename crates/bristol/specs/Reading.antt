@@ -9,14 +9,14 @@ use Rattle.scan.specs.Cuts.{Piece}
 use Rattle.scan.specs.Numbers.{number-of}
 use Rattle.scan.specs.Tokens.{left}
 use Rattle.bristol.specs.Gates.{arity-of, operation-of, gate-of-two, gate-of-one}
-use Rattle.bristol.specs.Refusals.{number}
+use Rattle.refusals.specs.Texts.{number}
 use Rattle.bristol.specs.declared.gate.Arity.{Arity}
 use Rattle.bristol.specs.declared.gate.Arity.the-variants.{One, Two}
 use Rattle.bristol.specs.declared.gate.GateLine.{GateLine}
 use Rattle.bristol.specs.declared.gate.Operation.{Operation}
 use Rattle.bristol.specs.declared.header.Header.{Header}
 use Rattle.bristol.specs.declared.reader.Reader.{Reader}
-use Rattle.bristol.specs.declared.refusal.TextRefusal.{TextRefusal}
+use Rattle.refusals.specs.declared.text.TextRefusal.{TextRefusal}
 
 -- the pieces that a reader has not read
 abbrev pub ahead : Reader → List Piece

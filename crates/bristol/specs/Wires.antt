@@ -11,8 +11,8 @@ use Rattle.std.specs.declared.result.Result.the-variants.{Ok, Err}
 use Rattle.std.specs.Options.{isSome}
 use Rattle.bristol.specs.declared.gate.Gate.{Gate}
 use Rattle.bristol.specs.declared.gate.Gate.the-variants.{Xor, And, Inv}
-use Rattle.bristol.specs.declared.refusal.TextRefusal.{TextRefusal}
-use Rattle.bristol.specs.declared.refusal.TextRefusal.the-variants.{Wiring}
+use Rattle.refusals.specs.declared.text.TextRefusal.{TextRefusal}
+use Rattle.refusals.specs.declared.text.TextRefusal.the-variants.{Wiring}
 
 -- k wires, of which the first n are given
 abbrev pub inputs-given : ℕ → ℕ → List (Option ℕ)

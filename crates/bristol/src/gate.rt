@@ -1,7 +1,7 @@
 ghost use mathlib.Core.Path.{_≡_};
 ghost use Rattle.std.specs.shelf.Text.{sameBytes};
 ghost use Rattle.bristol.specs.Gates.{arity-of, operation-of, gate-of-two, gate-of-one};
-use crate::refusal::TextRefusal;
+use refusals::TextRefusal;
 
 // How many wires a gate reads.
 #[derive(Clone, Copy)]

@@ -1,6 +1,6 @@
 ghost use mathlib.Core.Path.{_≡_};
 ghost use Rattle.bristol.specs.Headers.{checked};
-use crate::refusal::TextRefusal;
+use refusals::TextRefusal;
 
 // The most inputs, and the most outputs.
 const PORT_LIMIT: u32 = 64;

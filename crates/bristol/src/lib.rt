@@ -11,23 +11,16 @@ ghost use Rattle.bristol.specs.Refusals.{is-too-long};
 ghost use Rattle.bristol.specs.Texts.{gates-first, read-pieces, read-text};
 ghost use Rattle.scan.specs.Cuts.{cut};
 use network::Network;
+use refusals::TextRefusal;
 use std::alloc::Global;
 
 mod builder;
 mod gate;
 mod header;
 mod reader;
-mod refusal;
 
 use builder::Builder;
 use reader::Reader;
-pub use refusal::TextRefusal;
-pub use refusal::TextRefusalDebug;
-pub use refusal::TextRefusalEq;
-pub use refusal::TextRefusalFromAlloc;
-pub use refusal::TextRefusalFromDraft;
-pub use refusal::TextRefusalFromRefused;
-pub use refusal::TextRefusalPartialEq;
 
 // The most bytes that a text may have.
 const TEXT_LIMIT: usize = 65536;

@@ -7,7 +7,7 @@ use crate::gate::Gate;
 use crate::gate::GateLine;
 use crate::gate::Operation;
 use crate::header::Header;
-use crate::refusal::TextRefusal;
+use refusals::TextRefusal;
 use scan::Scanner;
 
 // Reads a text's header and gates, token by token.

@@ -6,8 +6,8 @@ ghost use Rattle.moves.specs.Buffers.{gates-in};
 ghost use Rattle.ledger.specs.Ledgers.{line-of};
 ghost use Rattle.moves.specs.Fans.{adds as adds-of, fan as fan-of, not-if};
 use crate::buffer::GateBuffer;
-use ledger::Ledger;
 use circuit::Gate;
+use ledger::Ledger;
 
 // A cnot onto a line from the line of each element.
 pub(crate) fn add_elements(out: &mut GateBuffer, ledger: &Ledger, n: u16, elements: &[u16], t: u16)

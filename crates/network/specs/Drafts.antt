@@ -10,11 +10,11 @@ use Rattle.std.specs.Options.{isSome}
 use Rattle.std.specs.declared.result.Result.{Result}
 use Rattle.std.specs.declared.result.Result.the-variants.{Ok, Err}
 use Rattle.network.specs.Wires.{Body, Net, body-of, add, grown, no-wires, fits, form-at, and-form, wire-count, node-count, output-count}
-use Rattle.network.specs.Refusals.{number}
+use Rattle.refusals.specs.Drafts.{number}
 use Rattle.network.specs.declared.wire.Step.{Step}
 use Rattle.network.specs.declared.wire.Step.the-variants.{Input, Xor, And, Inv}
-use Rattle.network.specs.declared.refusal.DraftRefusal.{DraftRefusal}
-use Rattle.network.specs.declared.refusal.DraftRefusal.the-variants.{NoOutput, OutOfMemory}
+use Rattle.refusals.specs.declared.draft.DraftRefusal.{DraftRefusal}
+use Rattle.refusals.specs.declared.draft.DraftRefusal.the-variants.{NoOutput, OutOfMemory}
 use Rattle.network.specs.declared.draft.Draft.{Draft}
 
 abbrev pub drafted : Draft → Net

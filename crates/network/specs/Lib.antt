@@ -1,4 +1,3 @@
 pub mod Wires
-pub mod Refusals
 pub mod Drafts
 pub mod Networks

@@ -14,7 +14,12 @@ pub(crate) fn count<T>(items: &[T]) -> u16
 
 // Item i, where there is one.
 pub(crate) fn item<T>(items: &[T], i: u16) -> Option<&T>
+    requires short { ⌜ length (now items) ≤ 65535 ⌝ }
     ensures is_item_i { λ r. ⌜ Item (now (items .entry)) i i r ⌝ }
 {
-    items.get(i as usize)
+    if i < count(items) {
+        Some(&items[i as usize])
+    } else {
+        None
+    }
 }

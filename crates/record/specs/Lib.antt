@@ -1,4 +1,4 @@
-pub mod Refusals
+pub mod Making
 pub mod Bytes
 pub mod Fitting
 pub mod Records

@@ -12,7 +12,7 @@ use Rattle.sinks.specs.Meaning.{Meaning, Fresh}
 use Rattle.record.specs.declared.Record.{Record}
 use Rattle.record.specs.Bytes.{gatesOf, written, encoded, trailer}
 use Rattle.record.specs.Fitting.{allFit}
-use Rattle.record.specs.Refusals.{checked, placesAt}
+use Rattle.record.specs.Making.{checked, placesAt}
 
 abbrev pub bytes : Record → List ℕ
 bytes s = now (s .buffer)

@@ -8,7 +8,7 @@ ghost use Rattle.std.specs.Finite.{nth};
 ghost use Rattle.std.specs.Results.{Cases};
 ghost use Rattle.std.specs.declared.result.Result.the-variants.{Ok, Err};
 ghost use Rattle.record.specs.Bytes.{block};
-ghost use Rattle.record.specs.Refusals.{number, checked};
+ghost use Rattle.record.specs.Making.{checked};
 ghost use Rattle.record.specs.Records.{recorded, Sound, Empty, Made, Taken, Shut, bytes, gates};
 ghost use Rattle.record.specs.RecordLaws.{record-laws};
 
@@ -18,7 +18,8 @@ use bytes::decode;
 use bytes::encode;
 use bytes::write_trailer;
 use circuit::Gate;
-use sinks::OfferRefusal;
+use refusals::MakeRefusal;
+use refusals::OfferRefusal;
 use sinks::Sink;
 use sinks::judge;
 
@@ -31,26 +32,6 @@ pub struct Record<'a> {
     count: u16,
     t_count: u32,
     closed: bool,
-}
-
-// Why a record cannot be made.
-#[derive(Clone, Copy, PartialEq, Eq, Debug)]
-pub enum MakeRefusal {
-    // The width is not from 1 to 320.
-    Width,
-    // The buffer does not have from 12 to 524,292 bytes.
-    Size,
-}
-
-impl MakeRefusal {
-    pub fn number(self) -> u8
-        ensures is_its_number { λ r. ⌜ r ≡ number self ⌝ }
-    {
-        match self {
-            MakeRefusal::Width => 10,
-            MakeRefusal::Size => 11,
-        }
-    }
 }
 
 impl<'a> Record<'a> {
@@ -94,21 +75,6 @@ impl<'a> Record<'a> {
     {
         Self::check(width, buffer.len())?;
         Ok(Self::over(buffer, width))
-    }
-
-    // The caller's buffer, with what was written.
-    pub fn into_buffer(self) -> &'a mut [u8]
-        ensures is_the_buffer { λ r. ⌜ r ≡ self .entry .buffer ⌝ }
-    {
-        let Record {
-            buffer,
-            width: _,
-            places: _,
-            count: _,
-            t_count: _,
-            closed: _,
-        } = self;
-        buffer
     }
 
     // How many gates it holds.

@@ -1,6 +1,6 @@
 -- `cut` parts a text.
 use mathlib.Core.Path.{_≡_, refl, sym, ap, subst, _∙_}
-use mathlib.Core.Bool.{Bool, true, false, cond}
+use mathlib.Core.Bool.{true, false}
 use mathlib.Core.List.{List, [], _∷_, _++_, append-assoc}
 use Prim.Native.Nat.{ℕ, _+_, _<_}
 use native.Mathlib.Nat.{add-zero}
@@ -9,7 +9,7 @@ use lib.ListN.{length}
 use Rattle.std.proofs.shelf.Lists.{length-push}
 use Rattle.std.proofs.shelf.Tests.{cond-both}
 use Rattle.scan.specs.Cuts.{Piece, separator, close, cut}
-use Rattle.scan.specs.Parts.{Blank, Solid, Ends, First, Parted}
+use Rattle.scan.specs.Parts.{Solid, Ends, Parted}
 
 -- a separator in front
 lead : (p b : ℕ) (bs : List ℕ) (ps : List Piece) → separator b ≡ true → Parted (p + 1) bs ps → Parted p (b ∷ bs) ps

@@ -2,7 +2,7 @@
 use mathlib.Core.Path.{_≡_, refl, sym, ap, subst, _∙_}
 use mathlib.Core.Bool.{Bool, true, false, cond, _&&_}
 use mathlib.Core.Logic.{⊎-elim}
-use mathlib.Core.List.{List, [], _∷_, _++_}
+use mathlib.Core.List.{List, [], _∷_}
 use Prim.Native.Nat.{ℕ, _+_, _-_, _*_, _<_, _≤_}
 use native.Mathlib.Nat.{add-zero}
 use native.Mathlib.Omega.{arith}
@@ -13,9 +13,9 @@ use Rattle.std.specs.declared.option.Option.the-variants.{Some, None}
 use Rattle.std.specs.Holes.{between}
 use Rattle.std.proofs.shelf.Edits.{between-more, length-between}
 use Rattle.std.proofs.shelf.Lists.{drop-more, drop-all}
-use Rattle.std.proofs.shelf.Tests.{cond-true, cond-false, and-parts, and-right, both-ways, cases-lt, lt-leb, le-leb, leb-true}
+use Rattle.std.proofs.shelf.Tests.{cond-true, cond-false, and-right, both-ways, cases-lt, lt-leb, le-leb}
 use Rattle.scan.specs.Cuts.{Piece, separator, close, cut}
-use Rattle.scan.specs.Numbers.{digit, all-digits, worth, number-of}
+use Rattle.scan.specs.Numbers.{digit, all-digits, worth}
 
 module _ (s : List ℕ) (i : ℕ) (within : i < length s) where
   -- a separator is passed

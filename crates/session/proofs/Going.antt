@@ -48,7 +48,7 @@ module _ {S : Type 0} {meaning : S → Meaning} {sound : S → Type 0} {took : S
       record {
         joins = λ u c. k .joins u (then r c);
         enough = omega (arith, a .free, k .enough);
-        fits = ap (λ w. fitting w rest) (a .width) ∙ p .1
+        fits = ap (λ w. fitting w rest) (a .width) ∙ p .1;
       }
 
   -- gate k of the list is offered

@@ -6,7 +6,7 @@ use Rattle.std.specs.declared.result.Result.the-variants.{Ok, Err}
 use Rattle.circuit.specs.declared.Gate.{Gate}
 use Rattle.sinks.specs.Meaning.{Meaning, answer}
 use Rattle.sinks.specs.Laws.{Laws}
-use Rattle.sinks.specs.declared.OfferRefusal.{OfferRefusal}
+use Rattle.refusals.specs.declared.offer.OfferRefusal.{OfferRefusal}
 use Rattle.session.specs.Sending.{KeptSound, Kept}
 use Rattle.session.specs.State.{Steady}
 use Rattle.session.specs.declared.session.Session.{Session}

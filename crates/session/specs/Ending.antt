@@ -4,7 +4,7 @@ use Rattle.std.specs.declared.result.Result.{Result}
 use Rattle.std.specs.declared.result.Result.the-variants.{Ok}
 use Rattle.sinks.specs.Meaning.{Meaning}
 use Rattle.session.specs.Sending.{KeptSound}
-use Rattle.session.specs.declared.refusal.SessionRefusal.{SessionRefusal}
+use Rattle.refusals.specs.declared.session.SessionRefusal.{SessionRefusal}
 
 -- t is s, closed after what winding back sent; and where the answer is yes, nothing was sent
 pub record HandedBack {X : Type 0} (meaning : X → Meaning) (sound : X → Type 0) (shut : X → X → Type 0) (s : X) (answer : Result (Unit {0}) SessionRefusal) (t : X) : Type 0 where

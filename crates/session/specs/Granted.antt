@@ -10,7 +10,7 @@ use Rattle.moves.specs.Spelled.{spelled}
 use Rattle.ledger.specs.declared.moves.Move.{Move}
 use Rattle.session.specs.Questions.{Question, first-no}
 use Rattle.session.specs.State.{sent-now}
-use Rattle.session.specs.declared.refusal.SessionRefusal.{SessionRefusal}
+use Rattle.refusals.specs.declared.session.SessionRefusal.{SessionRefusal}
 use Rattle.session.specs.declared.session.Plan.{Plan}
 use Rattle.session.specs.declared.session.Session.{Session}
 

@@ -18,8 +18,8 @@ use Rattle.ledger.specs.declared.moves.Move.the-variants.{Compute, Release, Cop
 use Rattle.moves.specs.Fans.{joined}
 use Rattle.ledger.specs.Ledgers.{all-ready, free-line, any-held, all-true, line-in}
 use Rattle.moves.specs.Spelling.{around-of, core-of}
-use Rattle.session.specs.declared.refusal.SessionRefusal.{SessionRefusal}
-use Rattle.session.specs.declared.refusal.SessionRefusal.the-variants.{NoPlaces, Width, NoSuchNode, NodeHeld, OperandNotHeld, LineNotFree, LogFull, NodeNotHeld, NoSuchOutput, StillHeld, EvenCopies}
+use Rattle.refusals.specs.declared.session.SessionRefusal.{SessionRefusal}
+use Rattle.refusals.specs.declared.session.SessionRefusal.the-variants.{NoPlaces, Width, NoSuchNode, NodeHeld, OperandNotHeld, LineNotFree, LogFull, NodeNotHeld, NoSuchOutput, StillHeld, EvenCopies}
 
 -- what is asked, and the refusal of its no
 pub record Question : Type 0 where

@@ -1,9 +1,9 @@
 // A network being compiled into a sink, and what the session holds.
-use crate::refusal::SessionRefusal;
 use ledger::Ledger;
 use ledger::Move;
 use moves::Spelling;
 use network::Network;
+use refusals::SessionRefusal;
 use sinks::Sink;
 
 mod asking;

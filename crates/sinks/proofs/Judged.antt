@@ -9,9 +9,9 @@ use Rattle.std.specs.declared.result.Result.{Result}
 use Rattle.std.specs.declared.result.Result.the-variants.{Ok, Err}
 use Rattle.circuit.specs.declared.Gate.{Gate}
 use Rattle.circuit.specs.Gates.{inside, apart}
-use Rattle.sinks.specs.declared.OfferRefusal.{OfferRefusal}
-use Rattle.sinks.specs.declared.OfferRefusal.the-variants.{LineOutside, LinesRepeat, NoPlace}
-use Rattle.sinks.specs.Refusals.{judged}
+use Rattle.refusals.specs.declared.offer.OfferRefusal.{OfferRefusal}
+use Rattle.refusals.specs.declared.offer.OfferRefusal.the-variants.{LineOutside, LinesRepeat, NoPlace}
+use Rattle.sinks.specs.Questions.{judged}
 
 -- the answer by its three tests
 abbrev by : Bool → Bool → Bool → Result (Unit {0}) OfferRefusal

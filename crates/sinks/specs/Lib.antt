@@ -1,4 +1,4 @@
-pub mod Refusals
+pub mod Questions
 pub mod Meaning
 pub mod Laws
 pub mod Chain

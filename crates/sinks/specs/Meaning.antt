@@ -9,8 +9,8 @@ use Rattle.std.specs.declared.option.Option.the-variants.{Some}
 use Rattle.std.specs.declared.result.Result.{Result}
 use Rattle.circuit.specs.declared.Gate.{Gate}
 use Rattle.circuit.specs.Gates.{after, tcost}
-use Rattle.sinks.specs.declared.OfferRefusal.{OfferRefusal}
-use Rattle.sinks.specs.Refusals.{judged}
+use Rattle.refusals.specs.declared.offer.OfferRefusal.{OfferRefusal}
+use Rattle.sinks.specs.Questions.{judged}
 
 -- the action gives the end state of each start state, or None, a fault
 pub record Meaning : Type 0 where

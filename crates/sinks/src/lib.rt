@@ -2,33 +2,11 @@
 ghost use mathlib.Core.Path.{_≡_};
 ghost use Rattle.std.specs.Results.{Cases};
 ghost use Rattle.circuit.specs.declared.Gate.{Gate};
-ghost use Rattle.sinks.specs.Refusals.{number, judged};
+ghost use Rattle.sinks.specs.Questions.{judged};
 ghost use Rattle.sinks.specs.Meaning.{Meaning, answer};
 ghost use Rattle.sinks.specs.Laws.{Laws};
 use circuit::Gate;
-
-// Why a gate was not taken.
-#[derive(Clone, Copy, PartialEq, Eq, Debug)]
-pub enum OfferRefusal {
-    // A line of the gate is not below the sink's width.
-    LineOutside,
-    // Two lines of the gate are the same.
-    LinesRepeat,
-    // The sink has no free place.
-    NoPlace,
-}
-
-impl OfferRefusal {
-    pub fn number(self) -> u8
-        ensures is_its_number { λ r. ⌜ r ≡ number self ⌝ }
-    {
-        match self {
-            OfferRefusal::LineOutside => 7,
-            OfferRefusal::LinesRepeat => 8,
-            OfferRefusal::NoPlace => 9,
-        }
-    }
-}
+use refusals::OfferRefusal;
 
 // The questions of an offer at a width and a number of free places; the first no is the answer.
 pub fn judge(g: Gate, width: u16, free: u64) -> Result<(), OfferRefusal>

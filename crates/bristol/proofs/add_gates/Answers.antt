@@ -3,7 +3,7 @@ use mathlib.Core.Logic.{inl}
 use Rattle.std.proofs.shelf.Results.{err-from-errBy}
 use Rattle.bristol.specs.Building.{building}
 use Rattle.bristol.specs.Reading.{ahead}
-use Rattle.bristol.specs.Refusals.{number}
+use Rattle.refusals.specs.Texts.{number}
 use Rattle.bristol.proofs.Builds.{refuses-same}
 use Rattle.bristol.proofs.Gates.{line-stops, gate-stops, gate-more}
 use Rattle.bristol.proofs.add_gates.Needs as need

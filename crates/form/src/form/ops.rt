@@ -89,7 +89,7 @@ impl Form {
     pub fn is_empty(&self) -> bool
         ensures tells_if_empty { λ r. ⌜ r ≡ is-empty (shape (now (self .entry)) .set) ⌝ }
     {
-        self.elements.is_empty()
+        self.elements().is_empty()
     }
 
     pub fn constant(&self) -> bool

@@ -15,10 +15,10 @@ use crate::buffer::GateBuffer;
 use crate::fans::add_constant;
 use crate::fans::add_elements;
 use crate::fans::fan_in;
-use ledger::Ledger;
-use ledger::Move;
 use circuit::Gate;
 use form::Form;
+use ledger::Ledger;
+use ledger::Move;
 use network::Network;
 use network::Node;
 

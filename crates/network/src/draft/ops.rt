@@ -15,13 +15,13 @@ ghost use Rattle.network.specs.declared.wire.Step.the-variants.{Xor, And, Inv}
 use super::Draft;
 use crate::lists::count;
 use crate::network::Network;
-use crate::refusal::DraftRefusal;
-use crate::refusal::DraftRefusalFromAlloc;
-use crate::refusal::DraftRefusalFromRefused;
 use crate::wire::Node;
 use crate::wire::Step;
 use crate::wire::Wire;
 use form::Form;
+use refusals::DraftRefusal;
+use refusals::DraftRefusalFromAlloc;
+use refusals::DraftRefusalFromRefused;
 use std::alloc::AllocError;
 use std::alloc::Global;
 
@@ -266,7 +266,7 @@ impl Draft {
     pub fn sealable(&self) -> Result<(), DraftRefusal>
         ensures tells_if_it_has_an_output { λ r. ⌜ Sealable (drafted (now (self .entry))) r ⌝ }
     {
-        if self.outputs.is_empty() {
+        if self.outputs() == 0 {
             return Err(DraftRefusal::NoOutput);
         }
         Ok(())

@@ -11,10 +11,10 @@ ghost use Rattle.session.specs.Questions.{width-fits, operands-held, free-anci
 ghost use Rattle.session.specs.State.{net-of, release-move, room-asked, compute-asked, release-asked, copy-asked, end-asked};
 use super::Plan;
 use super::Session;
-use crate::refusal::SessionRefusal;
 use ledger::Move;
 use moves::Spelling;
 use network::Node;
+use refusals::SessionRefusal;
 use sinks::Sink;
 
 impl<'n, S: Sink> Session<'n, S> {
@@ -31,7 +31,8 @@ impl<'n, S: Sink> Session<'n, S> {
         ensures says_held { λ r. ⌜ r ≡ operands-held (net-of (now (self .entry))) (now (self .entry) .ledger .held) (node-shape (now (node .entry))) ⌝ }
     {
         let n = self.network.inputs();
-        self.ledger.all_ready(n, node.first.elements()) && self.ledger.all_ready(n, node.second.elements())
+        self.ledger.all_ready(n, node.first.elements())
+            && self.ledger.all_ready(n, node.second.elements())
     }
 
     // Whether a line is an ancilla on which no node is held.
@@ -119,7 +120,8 @@ impl<'n, S: Sink> Session<'n, S> {
         let Some(form) = self.network.output(j) else {
             return Err(SessionRefusal::NoSuchOutput);
         };
-        if !self.ledger.all_ready(self.network.inputs(), form.elements()) {
+        if !self.ledger
+            .all_ready(self.network.inputs(), form.elements()) {
             return Err(SessionRefusal::OperandNotHeld);
         }
         self.plan(Move::Copy { output: j })

@@ -7,10 +7,10 @@ ghost use Rattle.ledger.specs.declared.moves.Move.the-variants.{Compute, Copy};
 ghost use Rattle.session.specs.Questions.{first-no};
 ghost use Rattle.session.specs.State.{Opened, Steady, Moved, release-move, compute-asked, release-asked, copy-asked};
 use super::Session;
-use crate::refusal::SessionRefusal;
 use crate::token::EndToken;
 use ledger::Ledger;
 use network::Network;
+use refusals::SessionRefusal;
 use sinks::Sink;
 
 impl<'n, S: Sink> Session<'n, S> {

@@ -1,7 +1,7 @@
 // The moves of a compile, in their order.
 ghost use Rattle.session.specs.State.{Steady};
 use super::Session;
-use crate::refusal::SessionRefusal;
+use refusals::SessionRefusal;
 use sinks::Sink;
 
 impl<'n, S: Sink> Session<'n, S> {

@@ -10,5 +10,5 @@ pub returns-else-constant : need.returns-else-constant
 returns-else-constant c =
     let b = c .args .out .now in
     record {
-      appends-not-if = sym (ap (λ v. take 512 (gates-in b ++ not-if v (c .args .t))) (c .if-constant .left) ∙ cut-none 512 (gates-in b) (short b))
+      appends-not-if = sym (ap (λ v. take 512 (gates-in b ++ not-if v (c .args .t))) (c .if-constant .left) ∙ cut-none 512 (gates-in b) (short b));
     }

@@ -19,7 +19,7 @@ loop-e-again c =
     let s = gates-in (c .loop-e .out) in
     let g = Cnot (c .line-of .result) (c .args .t) ∷ [] in
     let same : g ++ F (drop (i + 1) xs) ≡ F (drop i xs)
-            = ap (λ l. (Cnot l (c .args .t) ∷ []) ++ F (drop (i + 1) xs)) (c .line-of .ensures .is-line-of-element) ∙ sym (at-drop-more F xs i 0 (c .loop-e-test .taken)) in
+    = ap (λ l. (Cnot l (c .args .t) ∷ []) ++ F (drop (i + 1) xs)) (c .line-of .ensures .is-line-of-element) ∙ sym (at-drop-more F xs i 0 (c .loop-e-test .taken)) in
     cut-step 512 s (gates-in (c .push .last .self)) g (F (drop (i + 1) xs)) (c .push .ensures .appends-up-to-512)
     ∙ ap (λ gs. take 512 (s ++ gs)) same ∙ c .loop-e .inv
 
@@ -29,6 +29,6 @@ returns c =
     let s = gates-in (c .loop-e .out) in
     record {
       appends-adds = sym (cut-none 512 s (short (c .loop-e .out)))
-        ∙ ap (λ gs. take 512 (s ++ gs)) (sym (at-drop-all F (c .args .elements .now) (c .loop-e .e-index) (c .loop-e-test .left)))
-        ∙ c .loop-e .inv
+          ∙ ap (λ gs. take 512 (s ++ gs)) (sym (at-drop-all F (c .args .elements .now) (c .loop-e .e-index) (c .loop-e-test .left)))
+          ∙ c .loop-e .inv;
     }

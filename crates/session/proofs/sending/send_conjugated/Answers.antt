@@ -16,5 +16,5 @@ returns g c =
     record {
       keeps-sound = kept-twice s t v (c .send-all .ensures .keeps-sound) (kept-twice t u v (c .send .ensures .keeps-sound) (c .send-undone .ensures .keeps-sound));
       all-taken-in-order = λ h. taken-twice laws s t v around (core ∷ undone around) h (c .send-all .ensures .keeps-sound) (c .send-all .ensures .all-taken-in-order h)
-        (λ i. taken-twice laws t u v (core ∷ []) (undone around) i (c .send .ensures .keeps-sound) (taken-one laws t u core (c .send .ensures .taken-if-fit i)) (c .send-undone .ensures .all-undone-in-order))
+          (λ i. taken-twice laws t u v (core ∷ []) (undone around) i (c .send .ensures .keeps-sound) (taken-one laws t u core (c .send .ensures .taken-if-fit i)) (c .send-undone .ensures .all-undone-in-order));
     }

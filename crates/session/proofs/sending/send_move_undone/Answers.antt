@@ -17,10 +17,10 @@ returns-in-Some g c =
     let s = c .args .sink .now in
     let t = c .send-conjugated .last .sink in
     let same : joined (c .around .result .now) (Some (c .inverse .result)) ≡ undone (spelled (c .args .gates .now))
-            = ap (λ gs. gs ++ (c .inverse .result ∷ undone gs)) (c .around .ensures .are-around)
-            ∙ ap (λ h. around ++ (h ∷ undone around)) (c .inverse .ensures .is-inverse)
-            ∙ sym (undone-around around core) ∙ ap (λ o. undone (joined around o)) (c .in-Some .ensures tt .is-the-core) in
+    = ap (λ gs. gs ++ (c .inverse .result ∷ undone gs)) (c .around .ensures .are-around)
+    ∙ ap (λ h. around ++ (h ∷ undone around)) (c .inverse .ensures .is-inverse)
+    ∙ sym (undone-around around core) ∙ ap (λ o. undone (joined around o)) (c .in-Some .ensures tt .is-the-core) in
     record {
       keeps-sound = c .send-conjugated .ensures .keeps-sound;
-      all-undone-in-order = λ h. subst (λ gs. Taken (k .meaning) (k .took) s gs t) same (c .send-conjugated .ensures .all-taken-in-order h)
+      all-undone-in-order = λ h. subst (λ gs. Taken (k .meaning) (k .took) s gs t) same (c .send-conjugated .ensures .all-taken-in-order h);
     }

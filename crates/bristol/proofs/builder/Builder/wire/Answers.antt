@@ -6,7 +6,7 @@ use Rattle.std.specs.Of.Vec.{vec-items}
 use Rattle.std.specs.Options.{okOr}
 use Rattle.std.specs.declared.option.Option.the-variants.{None}
 use Rattle.std.proofs.shelf.Lists.{getD-past}
-use Rattle.bristol.specs.declared.refusal.TextRefusal.the-variants.{Wiring}
+use Rattle.refusals.specs.declared.text.TextRefusal.the-variants.{Wiring}
 use Rattle.bristol.proofs.builder.Builder.wire.Needs as need
 
 pub returns-in-None : need.returns-in-None

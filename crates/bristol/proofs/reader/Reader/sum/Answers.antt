@@ -2,7 +2,7 @@ use mathlib.Core.Path.{_∙_}
 use native.Mathlib.Omega.{arith}
 use Rattle.std.proofs.shelf.Results.{err-from-errBy}
 use Rattle.bristol.specs.Reading.{ahead}
-use Rattle.bristol.specs.Refusals.{number}
+use Rattle.refusals.specs.Texts.{number}
 use Rattle.bristol.proofs.Sums.{sum-more, sum-stops}
 use Rattle.bristol.proofs.reader.Reader.sum.Needs as need
 

@@ -13,7 +13,7 @@ returns-then-not-is-ready c =
     let i = c .loop-e .e-index in
     record {
       says-all-ready = at-element F xs i 0 false (c .loop-e-test .taken)
-        (ap (λ b. b && F (drop (i + 1) xs)) (sym (c .is-ready .ensures .says-ready) ∙ c .if-not-is-ready .taken)) (c .loop-e .inv)
+          (ap (λ b. b && F (drop (i + 1) xs)) (sym (c .is-ready .ensures .says-ready) ∙ c .if-not-is-ready .taken)) (c .loop-e .inv);
     }
 
 pub loop-e-again : need.loop-e-again
@@ -22,9 +22,9 @@ loop-e-again c =
     let xs = c .args .elements .now in
     let i = c .loop-e .e-index in
     at-element F xs i 0 (F (drop (i + 1) xs)) (c .loop-e-test .taken)
-      (ap (λ b. b && F (drop (i + 1) xs)) (sym (c .is-ready .ensures .says-ready) ∙ c .if-not-is-ready .left)) (c .loop-e .inv)
+    (ap (λ b. b && F (drop (i + 1) xs)) (sym (c .is-ready .ensures .says-ready) ∙ c .if-not-is-ready .left)) (c .loop-e .inv)
 
 pub returns : need.returns
 returns c = record {
-  says-all-ready = past-last (all-ready (c .args .n) (c .args .self .now .held)) (c .args .elements .now) (c .loop-e .e-index) (c .loop-e-test .left) (c .loop-e .inv)
+  says-all-ready = past-last (all-ready (c .args .n) (c .args .self .now .held)) (c .args .elements .now) (c .loop-e .e-index) (c .loop-e-test .left) (c .loop-e .inv);
 }

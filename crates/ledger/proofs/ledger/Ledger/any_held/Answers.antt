@@ -15,7 +15,7 @@ returns-then-is-taken c =
     let i = c .loop-slot .slot-index in
     record {
       says-any-held = at-element F xs i None true (omega arith)
-        (ap (λ b. b || F (drop (i + 1) xs)) (sym (c .is-taken .ensures .says-taken) ∙ c .if-is-taken .taken)) (c .loop-slot .inv)
+          (ap (λ b. b || F (drop (i + 1) xs)) (sym (c .is-taken .ensures .says-taken) ∙ c .if-is-taken .taken)) (c .loop-slot .inv);
     }
 
 pub loop-slot-again : need.loop-slot-again
@@ -24,9 +24,9 @@ loop-slot-again c =
     let xs = c .args .self .now .held in
     let i = c .loop-slot .slot-index in
     at-element F xs i None (F (drop (i + 1) xs)) (omega arith)
-      (ap (λ b. b || F (drop (i + 1) xs)) (sym (c .is-taken .ensures .says-taken) ∙ c .if-is-taken .left)) (c .loop-slot .inv)
+    (ap (λ b. b || F (drop (i + 1) xs)) (sym (c .is-taken .ensures .says-taken) ∙ c .if-is-taken .left)) (c .loop-slot .inv)
 
 pub returns : need.returns
 returns c = record {
-  says-any-held = past-last any-held (c .args .self .now .held) (c .loop-slot .slot-index) (omega arith) (c .loop-slot .inv)
+  says-any-held = past-last any-held (c .args .self .now .held) (c .loop-slot .slot-index) (omega arith) (c .loop-slot .inv);
 }

@@ -6,5 +6,5 @@ use Rattle.ledger.proofs.ledger.Ledger.held.Needs as need
 
 pub returns-then-node-ge192 : need.returns-then-node-ge192
 returns-then-node-ge192 c = record {
-  is-its-line = sym (getD-past (c .args .self .now .held) (c .args .node) None (omega arith))
+  is-its-line = sym (getD-past (c .args .self .now .held) (c .args .node) None (omega arith));
 }

@@ -15,7 +15,7 @@ returns-then-is-on c =
     let i = c .loop-slot .slot-index in
     record {
       says-free = at-element F xs i None false (omega arith)
-        (ap (λ b. b && F (drop (i + 1) xs)) (ap not (sym (c .is-on .ensures .says-on) ∙ c .if-is-on .taken))) (c .loop-slot .inv)
+          (ap (λ b. b && F (drop (i + 1) xs)) (ap not (sym (c .is-on .ensures .says-on) ∙ c .if-is-on .taken))) (c .loop-slot .inv);
     }
 
 pub loop-slot-again : need.loop-slot-again
@@ -24,9 +24,9 @@ loop-slot-again c =
     let xs = c .args .self .now .held in
     let i = c .loop-slot .slot-index in
     at-element F xs i None (F (drop (i + 1) xs)) (omega arith)
-      (ap (λ b. b && F (drop (i + 1) xs)) (ap not (sym (c .is-on .ensures .says-on) ∙ c .if-is-on .left))) (c .loop-slot .inv)
+    (ap (λ b. b && F (drop (i + 1) xs)) (ap not (sym (c .is-on .ensures .says-on) ∙ c .if-is-on .left))) (c .loop-slot .inv)
 
 pub returns : need.returns
 returns c = record {
-  says-free = past-last (free-line (c .args .line)) (c .args .self .now .held) (c .loop-slot .slot-index) (omega arith) (c .loop-slot .inv)
+  says-free = past-last (free-line (c .args .line)) (c .args .self .now .held) (c .loop-slot .slot-index) (omega arith) (c .loop-slot .inv);
 }

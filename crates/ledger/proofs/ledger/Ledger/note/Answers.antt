@@ -12,7 +12,7 @@ returns-then-self-lt1024 c =
         stands = past-more (L .log) (L .standing) (c .args .made) (omega (arith, L .logged));
         holds = c .hold .ensures .is-held-after;
         turns = c .turn .ensures .is-odd-after;
-        charges = λ fits. omega (arith, c .saturating-add-self .ensures)
+        charges = λ fits. omega (arith, c .saturating-add-self .ensures);
       };
-      full-log-is-unchanged = λ e. absurd (omega arith)
+      full-log-is-unchanged = λ e. absurd (omega arith);
     }

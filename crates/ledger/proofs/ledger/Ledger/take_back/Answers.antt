@@ -14,6 +14,6 @@ returns c =
         fewer = omega arith;
         holds = c .unhold .ensures .is-held-before;
         turns = c .turn .ensures .is-odd-after;
-        owes = refl
-      }
+        owes = refl;
+      };
     }

@@ -12,7 +12,7 @@ returns-then-not-flag c =
     let i = c .loop-flag .flag-index in
     record {
       says-all-true = at-element all-true xs i false false (c .loop-flag-test .taken)
-        (ap (λ b. b && all-true (drop (i + 1) xs)) (c .if-not-flag .taken)) (c .loop-flag .inv)
+          (ap (λ b. b && all-true (drop (i + 1) xs)) (c .if-not-flag .taken)) (c .loop-flag .inv);
     }
 
 pub loop-flag-again : need.loop-flag-again
@@ -20,9 +20,9 @@ loop-flag-again c =
     let xs = c .args .flags .now in
     let i = c .loop-flag .flag-index in
     at-element all-true xs i false (all-true (drop (i + 1) xs)) (c .loop-flag-test .taken)
-      (ap (λ b. b && all-true (drop (i + 1) xs)) (c .if-not-flag .left)) (c .loop-flag .inv)
+    (ap (λ b. b && all-true (drop (i + 1) xs)) (c .if-not-flag .left)) (c .loop-flag .inv)
 
 pub returns : need.returns
 returns c = record {
-  says-all-true = past-last all-true (c .args .flags .now) (c .loop-flag .flag-index) (c .loop-flag-test .left) (c .loop-flag .inv)
+  says-all-true = past-last all-true (c .args .flags .now) (c .loop-flag .flag-index) (c .loop-flag-test .left) (c .loop-flag .inv);
 }

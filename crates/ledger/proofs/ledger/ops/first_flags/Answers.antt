@@ -15,9 +15,9 @@ first-flags : (xs : List Bool) (m k : ℕ) → length xs ≡ 64 → k ≡ min m 
 first-flags xs m k h e =
     let z : k - 0 ≡ k = omega arith in
     ⊎-elim
-      (λ lt. ap (λ i. take i xs) (let s : k - 0 ≡ m = omega arith in s))
-      (λ ge. ap (λ i. take i xs) z ∙ take-all k xs (omega arith) ∙ sym (take-all m xs (omega arith)))
-      (cases-lt m 64)
+    (λ lt. ap (λ i. take i xs) (let s : k - 0 ≡ m = omega arith in s))
+    (λ ge. ap (λ i. take i xs) z ∙ take-all k xs (omega arith) ∙ sym (take-all m xs (omega arith)))
+    (cases-lt m 64)
 
 pub returns : need.returns
 returns c = record { are-the-first = first-flags (c .args .flags .now) (c .args .m) (c .min .result) (c .told-flags) (c .min .ensures) }

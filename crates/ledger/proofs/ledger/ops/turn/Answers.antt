@@ -9,5 +9,5 @@ use Rattle.ledger.proofs.ledger.ops.turn.Needs as need
 pub returns-else-output-lt64 : need.returns-else-output-lt64
 returns-else-output-lt64 c = record {
   is-odd-after = sym (ap (odd-after (c .args .odd .now)) (c .in-Copy .is)
-    ∙ set-past (c .args .odd .now) (c .in-Copy .output) (not (getD (c .args .odd .now) (c .in-Copy .output) false)) (omega (arith, c .told-odd)))
+      ∙ set-past (c .args .odd .now) (c .in-Copy .output) (not (getD (c .args .odd .now) (c .in-Copy .output) false)) (omega (arith, c .told-odd)));
 }

@@ -14,7 +14,7 @@ returns-then-self-lt512 c =
     let n : length (take (b .used) (b .gates)) ≡ b .used = length-take-le (b .used) (b .gates) (omega (arith, b .few, b .sized)) in
     record {
       appends-up-to-512 = take-more-set (b .gates) (b .used) g (omega (arith, b .sized))
-        ∙ sym (take-all 512 (gates-in b ++ g ∷ []) (omega (arith, length-push (gates-in b) g)))
+          ∙ sym (take-all 512 (gates-in b ++ g ∷ []) (omega (arith, length-push (gates-in b) g)));
     }
 
 pub returns-else-self-lt512 : need.returns-else-self-lt512
@@ -23,5 +23,5 @@ returns-else-self-lt512 c =
     let g = c .args .g in
     let n : length (take (b .used) (b .gates)) ≡ b .used = length-take-le (b .used) (b .gates) (omega (arith, b .few, b .sized)) in
     record {
-      appends-up-to-512 = sym (take-append-le 512 (gates-in b) (g ∷ []) (omega (arith, b .few)) ∙ take-all 512 (gates-in b) (omega (arith, b .few)))
+      appends-up-to-512 = sym (take-append-le 512 (gates-in b) (g ∷ []) (omega (arith, b .few)) ∙ take-all 512 (gates-in b) (omega (arith, b .few)));
     }

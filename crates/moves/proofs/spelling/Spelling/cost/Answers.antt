@@ -14,7 +14,7 @@ returns-in-Some c =
     let core = ap (λ o. length (joined around o)) (c .in-Some .is) in
     record {
       counts-gates = ap (λ n. 2 * n + 1) (c .len-around .ensures .counts-gates) ∙ sym (core ∙ length-around around _);
-      is-at-most-1025 = omega (arith, c .len-around .ensures .counts-gates, short (c .args .self .now .around))
+      is-at-most-1025 = omega (arith, c .len-around .ensures .counts-gates, short (c .args .self .now .around));
     }
 
 pub returns-in-None : need.returns-in-None
@@ -22,5 +22,5 @@ returns-in-None c =
     let around = gates-in (c .args .self .now .around) in
     record {
       counts-gates = c .len-around .ensures .counts-gates ∙ sym (ap (λ o. length (joined around o)) (c .in-None .is));
-      is-at-most-1025 = omega (arith, c .len-around .ensures .counts-gates, short (c .args .self .now .around))
+      is-at-most-1025 = omega (arith, c .len-around .ensures .counts-gates, short (c .args .self .now .around));
     }

@@ -17,7 +17,7 @@ returns c =
     let u = gates-in (c .add-elements .last .out) in
     record {
       is-copied = cut-pair 512 s u (gates-in (c .add-constant .last .out)) (adds at t (f .set)) (not-if (f .constant) t)
-        (c .new-out .ensures .is-empty)
-        (c .add-elements .ensures .appends-adds ∙ ap (λ es. take 512 (s ++ adds at t es)) (c .elements .ensures .are-the-elements))
-        (c .add-constant .ensures .appends-not-if ∙ ap (λ b. take 512 (u ++ not-if b t)) (c .constant .ensures .is-the-constant))
+          (c .new-out .ensures .is-empty)
+          (c .add-elements .ensures .appends-adds ∙ ap (λ es. take 512 (s ++ adds at t es)) (c .elements .ensures .are-the-elements))
+          (c .add-constant .ensures .appends-not-if ∙ ap (λ b. take 512 (u ++ not-if b t)) (c .constant .ensures .is-the-constant));
     }

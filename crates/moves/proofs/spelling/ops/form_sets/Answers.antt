@@ -27,9 +27,9 @@ returns-then-carriers c =
     let u = gates-in (c .fan-in-then-carriers .last .out) in
     record {
       forms-sets = cut-pair 512 s t u a b (c .new-out .ensures .is-empty)
-        (renamed at s t (c .args .carriers .first) (first-carrier d) (c .elements .result .now) (d .first .set) (c .pre .first) (c .elements .ensures .are-the-elements) (c .fan-in .ensures .appends-fan))
-        (renamed at t u (c .args .carriers .second) (second-carrier d) (c .elements-then-carriers .result .now) (d .second .set) (c .pre .second) (c .elements-then-carriers .ensures .are-the-elements) (c .fan-in-then-carriers .ensures .appends-fan))
-        ∙ ap (λ v. take 512 (cond v (a ++ b) (b ++ a))) (sym (sym (c .pre .leads) ∙ c .if-carriers .taken))
+          (renamed at s t (c .args .carriers .first) (first-carrier d) (c .elements .result .now) (d .first .set) (c .pre .first) (c .elements .ensures .are-the-elements) (c .fan-in .ensures .appends-fan))
+          (renamed at t u (c .args .carriers .second) (second-carrier d) (c .elements-then-carriers .result .now) (d .second .set) (c .pre .second) (c .elements-then-carriers .ensures .are-the-elements) (c .fan-in-then-carriers .ensures .appends-fan))
+          ∙ ap (λ v. take 512 (cond v (a ++ b) (b ++ a))) (sym (sym (c .pre .leads) ∙ c .if-carriers .taken));
     }
 
 pub returns : need.returns
@@ -43,7 +43,7 @@ returns c =
     let u = gates-in (c .fan-in-3 .last .out) in
     record {
       forms-sets = cut-pair 512 s t u b a (c .new-out .ensures .is-empty)
-        (renamed at s t (c .args .carriers .second) (second-carrier d) (c .elements-2 .result .now) (d .second .set) (c .pre .second) (c .elements-2 .ensures .are-the-elements) (c .fan-in-2 .ensures .appends-fan))
-        (renamed at t u (c .args .carriers .first) (first-carrier d) (c .elements-3 .result .now) (d .first .set) (c .pre .first) (c .elements-3 .ensures .are-the-elements) (c .fan-in-3 .ensures .appends-fan))
-        ∙ ap (λ v. take 512 (cond v (a ++ b) (b ++ a))) (sym (sym (c .pre .leads) ∙ c .if-carriers .left))
+          (renamed at s t (c .args .carriers .second) (second-carrier d) (c .elements-2 .result .now) (d .second .set) (c .pre .second) (c .elements-2 .ensures .are-the-elements) (c .fan-in-2 .ensures .appends-fan))
+          (renamed at t u (c .args .carriers .first) (first-carrier d) (c .elements-3 .result .now) (d .first .set) (c .pre .first) (c .elements-3 .ensures .are-the-elements) (c .fan-in-3 .ensures .appends-fan))
+          ∙ ap (λ v. take 512 (cond v (a ++ b) (b ++ a))) (sym (sym (c .pre .leads) ∙ c .if-carriers .left));
     }

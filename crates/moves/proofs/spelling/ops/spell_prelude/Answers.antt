@@ -30,8 +30,8 @@ returns c =
     let u = gates-in (c .add-constant-2 .last .out) in
     record {
       is-prelude = renamed t u (c .constant-2 .result) (d .second .constant) (c .line-of-second .result) (at (second-carrier d)) (c .constant-2 .ensures .is-the-constant) second (c .add-constant-2 .ensures .appends-not-if)
-        ∙ cut-step 512 s t x y (renamed s t (c .constant .result) (d .first .constant) (c .line-of-first .result) (at (first-carrier d)) (c .constant .ensures .is-the-constant) first (c .add-constant .ensures .appends-not-if))
-        ∙ cut-step 512 [] s (sets-formed at d) (x ++ y) (c .form-sets-gates .ensures .forms-sets);
+          ∙ cut-step 512 s t x y (renamed s t (c .constant .result) (d .first .constant) (c .line-of-first .result) (at (first-carrier d)) (c .constant .ensures .is-the-constant) first (c .add-constant .ensures .appends-not-if))
+          ∙ cut-step 512 [] s (sets-formed at d) (x ++ y) (c .form-sets-gates .ensures .forms-sets);
       is-first-line = first;
-      is-second-line = second
+      is-second-line = second;
     }

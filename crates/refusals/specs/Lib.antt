@@ -1,0 +1,5 @@
+pub mod Drafts
+pub mod Making
+pub mod Offers
+pub mod Sessions
+pub mod Texts

@@ -1,0 +1,32 @@
+// Why calls are refused, and the number of each refusal.
+mod draft;
+mod making;
+mod offer;
+mod session;
+mod text;
+
+pub use draft::DraftRefusal;
+pub use draft::DraftRefusalDebug;
+pub use draft::DraftRefusalEq;
+pub use draft::DraftRefusalFromAlloc;
+pub use draft::DraftRefusalFromRefused;
+pub use draft::DraftRefusalPartialEq;
+pub use making::MakeRefusal;
+pub use making::MakeRefusalDebug;
+pub use making::MakeRefusalEq;
+pub use making::MakeRefusalPartialEq;
+pub use offer::OfferRefusal;
+pub use offer::OfferRefusalDebug;
+pub use offer::OfferRefusalEq;
+pub use offer::OfferRefusalPartialEq;
+pub use session::SessionRefusal;
+pub use session::SessionRefusalDebug;
+pub use session::SessionRefusalEq;
+pub use session::SessionRefusalPartialEq;
+pub use text::TextRefusal;
+pub use text::TextRefusalDebug;
+pub use text::TextRefusalEq;
+pub use text::TextRefusalFromAlloc;
+pub use text::TextRefusalFromDraft;
+pub use text::TextRefusalFromRefused;
+pub use text::TextRefusalPartialEq;
