@@ -1,2 +1,5 @@
-pub mod Merges
 pub mod Members
+pub mod Merges
+pub mod Below
+pub mod Sums
+pub mod Values

@@ -15,6 +15,11 @@ abbrev pub ascending : List ℕ → Bool
 ascending [] = true
 ascending (x ∷ xs) = below-first x xs && ascending xs
 
+-- every element is below m
+abbrev pub all-below : List ℕ → ℕ → Bool
+all-below [] m = true
+all-below (x ∷ xs) m = ltb x m && all-below xs m
+
 -- x goes into the set, or out of it where it is there
 abbrev pub toggle : ℕ → List ℕ → List ℕ
 toggle x [] = x ∷ []

@@ -11,9 +11,11 @@ use lib.Dec.{ltb}
 use lib.ListN.{length, replicate}
 use Rattle.std.specs.declared.option.Option.the-variants.{None}
 use Rattle.std.proofs.shelf.Lists.{map-push, length-map}
-use Rattle.std.proofs.shelf.Tests.{and-parts, and-from, lt-ltb, ltb-true}
+use Rattle.std.proofs.shelf.Tests.{and-parts, and-from, lt-ltb}
+use Rattle.form.specs.Sets.{all-below}
 use Rattle.form.specs.Shapes.{shape, element-form}
-use Rattle.network.specs.Wires.{Body, body-of, wire-shape, node-shape, steps-of, no-wires, input-wire, add, add-and, with-wire, form-at, and-form, node-over, grown, fits, valid, all-below}
+use Rattle.form.proofs.Below.{below-push}
+use Rattle.network.specs.Wires.{Body, body-of, wire-shape, node-shape, steps-of, no-wires, input-wire, add, add-and, with-wire, form-at, and-form, node-over, grown, fits, valid}
 use Rattle.network.specs.declared.wire.Step.{Step}
 use Rattle.network.specs.declared.wire.Step.the-variants.{Input, And}
 use Rattle.network.specs.declared.wire.Wire.{Wire}
@@ -96,18 +98,6 @@ module _ (n i j : ℕ) (ws : List Wire) (ns : List Node) (w : Wire) (m : Node) w
       ∥∥₁-map h (λ b. subst (λ l. Built n l ns′) (sym p) (subst (Built n (ws ++ w ∷ [])) (sym q) (node-built st (node-added st due fm pr) b)))
 
 -- outputs stay below the number of wires
-pub below-more : (ws : List ℕ) (m k : ℕ) → m ≤ k → all-below ws m ≡ true → all-below ws k ≡ true
-below-more [] m k h b = refl
-below-more (w ∷ ws) m k h b =
-    let t = and-parts (ltb w m) (all-below ws m) b in
-    and-from (ltb w k) (all-below ws k) (lt-ltb w k (omega (arith, ltb-true w m (t .0)))) (below-more ws m k h (t .1))
-
-below-push : (ws : List ℕ) (w m : ℕ) → w < m → all-below ws m ≡ true → all-below (ws ++ w ∷ []) m ≡ true
-below-push [] w m h b = and-from (ltb w m) true (lt-ltb w m h) refl
-below-push (v ∷ ws) w m h b =
-    let t = and-parts (ltb v m) (all-below ws m) b in
-    and-from (ltb v m) _ (t .0) (below-push ws w m h (t .1))
-
 pub below-cases : (ws more : List ℕ) (w m : ℕ) (ok : Bool) → more ≡ cond ok (ws ++ w ∷ []) ws → w < m → all-below ws m ≡ true → all-below more m ≡ true
 below-cases ws more w m true e h b = subst (λ l. all-below l m ≡ true) (sym e) (below-push ws w m h b)
 below-cases ws more w m false e h b = subst (λ l. all-below l m ≡ true) (sym e) b

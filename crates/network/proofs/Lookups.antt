@@ -1,20 +1,17 @@
 -- An element of a list that is lent, by its shape.
 use mathlib.Core.Path.{_≡_, sym, ap, _∙_}
-use mathlib.Core.Bool.{true}
-use mathlib.Core.List.{List, [], _∷_, map}
-use Prim.Native.Nat.{ℕ, zero, suc, _<_, _≤_}
+use mathlib.Core.List.{List, map}
+use Prim.Native.Nat.{ℕ, _<_, _≤_}
 use native.Mathlib.Omega.{arith}
 use denote.Ref.{RefT}
-use lib.Dec.{ltb}
 use lib.ListN.{length, getD}
 use Rattle.std.specs.Places.{Item}
 use Rattle.std.specs.Options.{Cases}
 use Rattle.std.specs.declared.option.Option.{Option}
 use Rattle.std.specs.declared.option.Option.the-variants.{Some, None}
 use Rattle.std.proofs.shelf.Lists.{getD-map, length-map}
-use Rattle.std.proofs.shelf.Tests.{and-parts, ltb-true}
 use Rattle.form.specs.Shapes.{shape}
-use Rattle.network.specs.Wires.{wire-shape, no-wire, body-of, form-at, all-below}
+use Rattle.network.specs.Wires.{wire-shape, no-wire, body-of, form-at}
 use Rattle.network.specs.declared.wire.Wire.{Wire}
 use Rattle.network.specs.declared.wire.Node.{Node}
 
@@ -27,8 +24,3 @@ lent-shape f e vs xs i (Some d) p h =
 
 pub lent-form : (ws : List Wire) (ns : List Node) (i : ℕ) (w : Wire) → i < length ws → w ≡ getD ws i w → shape (w .form) ≡ form-at (body-of ws ns) i
 lent-form ws ns i w l is = ap (λ x. shape (x .form)) is ∙ sym (ap (λ x. x .form) (getD-map wire-shape ws i w no-wire l))
-
-pub below-at : (ws : List ℕ) (m i d : ℕ) → all-below ws m ≡ true → i < length ws → getD ws i d < m
-below-at [] m i d b h = absurd (omega arith)
-below-at (w ∷ ws) m zero d b h = ltb-true w m (and-parts (ltb w m) (all-below ws m) b .0)
-below-at (w ∷ ws) m (suc i) d b h = below-at ws m i d (and-parts (ltb w m) (all-below ws m) b .1) (omega arith)

@@ -1,3 +1,4 @@
 pub mod Wires
 pub mod Drafts
 pub mod Networks
+pub mod Values

@@ -1,13 +1,14 @@
 -- Wires and nodes, the forms that the rules give them, and what a network is made of.
-use mathlib.Core.Bool.{Bool, true, cond, _&&_}
+use mathlib.Core.Bool.{Bool, true, not, cond, _&&_}
 use mathlib.Core.List.{List, [], _∷_, _++_, map}
 use Prim.Native.Nat.{ℕ, _+_}
 use lib.Dec.{ltb}
 use lib.ListN.{length, getD}
 use Rattle.std.specs.declared.option.Option.{Option}
 use Rattle.std.specs.declared.option.Option.the-variants.{Some, None}
-use Rattle.form.specs.Sets.{is-empty, same-set}
-use Rattle.form.specs.Shapes.{Shape, shape, zero-form, element-form, xor-form, inverted-form, xor-bits}
+use Rattle.values.specs.Bits.{xor}
+use Rattle.form.specs.Sets.{ascending, all-below, is-empty, same-set}
+use Rattle.form.specs.Shapes.{Shape, shape, zero-form, element-form, xor-form, inverted-form}
 use Rattle.network.specs.declared.wire.Step.{Step}
 use Rattle.network.specs.declared.wire.Step.the-variants.{Input, Xor, And, Inv}
 use Rattle.network.specs.declared.wire.Wire.{Wire}
@@ -88,7 +89,7 @@ abbrev pub and-form : Shape → Shape → Option Shape
 and-form f g =
     cond (is-empty (f .set)) (Some (cond (f .constant) g zero-form))
     (cond (is-empty (g .set)) (Some (cond (g .constant) f zero-form))
-    (cond (same-set (f .set) (g .set)) (Some (cond (xor-bits (f .constant) (g .constant)) zero-form f)) None))
+    (cond (same-set (f .set) (g .set)) (Some (cond (xor (f .constant) (g .constant)) zero-form f)) None))
 
 abbrev pub with-wire : Body → Step → Shape → Body
 with-wire b s f = record { wires = b .wires ++ (record { step = s; form = f } ∷ []); nodes = b .nodes }
@@ -125,6 +126,22 @@ abbrev pub valid : ℕ → ℕ → List Step → Bool
 valid n p [] = true
 valid n p (s ∷ ss) = fits n p s && valid n (p + 1) ss
 
-abbrev pub all-below : List ℕ → ℕ → Bool
-all-below [] m = true
-all-below (w ∷ ws) m = ltb w m && all-below ws m
+-- a form's elements ascend and lie below k
+abbrev pub within : ℕ → Shape → Bool
+within k f = ascending (f .set) && all-below (f .set) k
+
+-- every wire's form lies within the basis
+abbrev pub forms-within : ℕ → List WireShape → Bool
+forms-within k [] = true
+forms-within k (w ∷ ws) = within k (w .form) && forms-within k ws
+
+-- a node's sets lie within the basis before it, neither is empty, and they differ
+abbrev pub proper-node : ℕ → NodeShape → Bool
+proper-node k d =
+    (within k (d .first) && within k (d .second))
+    && (not (is-empty (d .first .set)) && (not (is-empty (d .second .set)) && not (same-set (d .first .set) (d .second .set))))
+
+-- each node in turn, where the basis before the first has k elements
+abbrev pub proper-nodes : ℕ → List NodeShape → Bool
+proper-nodes k [] = true
+proper-nodes k (d ∷ ds) = proper-node k d && proper-nodes (k + 1) ds

@@ -1,9 +1,11 @@
 // A network that is being built.
 ghost use mathlib.Core.Path.{_≡_};
 ghost use mathlib.Core.Bool.{true};
-ghost use Prim.Native.Nat.{_≤_};
+ghost use mathlib.Core.List.{map};
+ghost use Prim.Native.Nat.{_+_, _≤_};
 ghost use Rattle.std.specs.Of.Vec.{vec-items, vec-len};
-ghost use Rattle.network.specs.Wires.{body-of, grown, steps-of, no-wires, valid, all-below};
+ghost use Rattle.form.specs.Sets.{all-below};
+ghost use Rattle.network.specs.Wires.{body-of, wire-shape, node-shape, grown, steps-of, no-wires, valid, forms-within, proper-nodes};
 use crate::wire::Node;
 use crate::wire::Wire;
 use std::alloc::Global;
@@ -25,4 +27,6 @@ pub struct Draft {
     ghost by_the_rules: { ∥ grown inputs no-wires (steps-of (vec-items wires)) ≡ body-of (vec-items wires) (vec-items nodes) ∥₁ },
     ghost reads_earlier: { valid inputs 0 (steps-of (vec-items wires)) ≡ true },
     ghost outputs_exist: { all-below (vec-items outputs) (vec-len wires) ≡ true },
+    ghost forms_in_basis: { forms-within (inputs + vec-len nodes) (map wire-shape (vec-items wires)) ≡ true },
+    ghost nodes_proper: { proper-nodes inputs (map node-shape (vec-items nodes)) ≡ true },
 }

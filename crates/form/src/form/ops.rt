@@ -15,7 +15,7 @@ fn merge(heap: Global, a: &[u16], b: &[u16]) -> Result<Vec<u16>, AllocError>
     ensures is_symmetric_difference { λ r. ⌜ made r (λ v. vec-items v ≡ symmetric-difference (now (a .entry)) (now (b .entry))) ⌝ }
     ensures ascends { λ r. ⌜ made r (λ v. ascending (vec-items v) ≡ true) ⌝ }
 {
-    let mut out = Vec::new(heap);
+    let mut out = Vec::with_capacity(heap, a.len().saturating_add(b.len()))?;
     let mut i = 0;
     let mut j = 0;
     while i < a.len() && j < b.len() {

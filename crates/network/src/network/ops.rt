@@ -1,13 +1,15 @@
 ghost use mathlib.Core.Path.{_≡_};
+ghost use mathlib.Core.List.{map};
 ghost use Prim.Native.Nat.{_<_, _≤_};
 ghost use Rattle.std.specs.Options.{Cases as BySome};
 ghost use Rattle.form.specs.Shapes.{shape};
-ghost use Rattle.network.specs.Wires.{node-shape, node-count, output-count, node-at, output-form};
+ghost use Rattle.network.specs.Wires.{wire-shape, node-shape, node-count, output-count, node-at, output-form};
 ghost use Rattle.network.specs.Networks.{sealed};
 use super::Network;
 use crate::lists::count;
 use crate::lists::item;
 use crate::wire::Node;
+use crate::wire::Wire;
 use form::Form;
 
 impl Network {
@@ -33,6 +35,20 @@ impl Network {
         ensures is_from_1_to_64 { λ r. ⌜ (1 ≤ r) × (r ≤ 64) ⌝ }
     {
         count(self.outputs.as_slice())
+    }
+
+    // The wires, in order.
+    pub fn wires(&self) -> &[Wire]
+        ensures are_the_wires { λ r. ⌜ map wire-shape (now r) ≡ sealed (now (self .entry)) .body .wires ⌝ }
+    {
+        self.wires.as_slice()
+    }
+
+    // The outputs' wires, in order.
+    pub fn output_wires(&self) -> &[u16]
+        ensures are_the_output_wires { λ r. ⌜ now r ≡ sealed (now (self .entry)) .outputs ⌝ }
+    {
+        self.outputs.as_slice()
     }
 
     // Node i, where there is one.

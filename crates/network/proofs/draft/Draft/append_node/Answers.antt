@@ -8,7 +8,9 @@ use Rattle.form.specs.Shapes.{element-form}
 use Rattle.network.specs.Drafts.{drafted}
 use Rattle.network.specs.declared.wire.Step.the-variants.{And}
 use Rattle.network.specs.declared.wire.Wire.{Wire}
-use Rattle.network.proofs.Grows.{node-after, node-kept, valid-cases, below-more}
+use Rattle.form.proofs.Below.{below-more}
+use Rattle.network.proofs.Grows.{node-after, node-kept, valid-cases}
+use Rattle.network.proofs.Kept.{forms-kept, nodes-kept}
 use Rattle.network.proofs.Questions.{two-within, accepted, wires-counted, nodes-counted}
 use Rattle.network.proofs.draft.Draft.append_node.Needs as need
 
@@ -30,7 +32,7 @@ ghost-self-2 c =
         d .«input_limit»,
         (
           omega (arith, c .push-reserved .ensures .len, c .reserve .ensures .len, wires-counted d, c .pre .passed .room),
-          (omega (arith, c .in-Continue-push .ensures tt .len, nodes-counted d, c .nodes-k .ensures .is-the-number-of-nodes), (d .«output_limit», (built, (reads, (below-more (vec-items (d .outputs)) (vec-len (d .wires)) _ (omega (arith, c .push-reserved .ensures .len, c .reserve .ensures .len)) (d .«outputs_exist»), tt))))),
+          (omega (arith, c .in-Continue-push .ensures tt .len, nodes-counted d, c .nodes-k .ensures .is-the-number-of-nodes), (d .«output_limit», (built, (reads, (below-more (vec-items (d .outputs)) (vec-len (d .wires)) _ (omega (arith, c .push-reserved .ensures .len, c .reserve .ensures .len)) (d .«outputs_exist»), (forms-kept (d .inputs) _ _ _ (c .push .last .self .ok .0) built reads, (nodes-kept (d .inputs) _ _ built reads, tt))))))),
         ),
       ),
     )

@@ -4,8 +4,9 @@ use native.Mathlib.Omega.{arith}
 use lib.ListN.{length, getD}
 use Rattle.std.specs.Of.Vec.{vec-items, vec-len}
 use Rattle.std.proofs.shelf.Lists.{getD-read}
+use Rattle.form.proofs.Below.{below-at}
 use Rattle.network.specs.Wires.{body-of, form-at}
-use Rattle.network.proofs.Lookups.{lent-form, below-at}
+use Rattle.network.proofs.Lookups.{lent-form}
 use Rattle.network.proofs.network.Network.output.Needs as need
 
 pub index-requires : need.index-requires

@@ -1,0 +1,49 @@
+// The value of a network at words of bits.
+ghost use mathlib.Core.Path.{_≡_};
+ghost use Prim.Native.Nat.{_≤_};
+ghost use lib.ListN.{length};
+ghost use Rattle.std.specs.Of.Vec.{vec-items};
+ghost use Rattle.std.specs.Vec.{made};
+ghost use Rattle.values.specs.Bits.{bits};
+ghost use Rattle.network.specs.Networks.{sealed};
+ghost use Rattle.network.specs.Values.{given, output-values};
+ghost use Rattle.evaluation.specs.Words.{bits-of, word-of};
+use crate::chain::evaluate;
+use network::Network;
+use std::alloc::AllocError;
+use std::alloc::Global;
+use values::BitAlgebra;
+
+// The bits of a word, the lowest first.
+fn unpacked(heap: Global, word: u64) -> Result<Vec<bool>, AllocError>
+    ensures are_its_bits { λ r. ⌜ made r (λ v. vec-items v ≡ bits-of 64 word) ⌝ }
+{
+    let mut found = Vec::new(heap);
+    let mut rest = word;
+    for _ in 0..64u8 {
+        found.push(rest % 2 == 1)?;
+        rest /= 2;
+    }
+    Ok(found)
+}
+
+// The word of these bits, the lowest first.
+fn packed(flags: &[bool]) -> u64
+    requires one_word { ⌜ length (now flags) ≤ 64 ⌝ }
+    ensures is_their_word { λ r. ⌜ r ≡ word-of (now (flags .entry)) ⌝ }
+{
+    let mut word = 0;
+    for i in (0..flags.len()).rev() {
+        word = u64::from(flags[i]) + 2 * word;
+    }
+    word
+}
+
+// The outputs at a word of inputs: bit i is input i, and bit j of the answer is output j.
+pub fn evaluate_word(network: &Network, heap: Global, word: u64) -> Result<u64, AllocError>
+    ensures is_the_word_of_outputs { λ r. ⌜ made r (λ v. v ≡ word-of (output-values bits (given bits (bits-of 64 word)) (sealed (now (network .entry))))) ⌝ }
+{
+    let inputs = unpacked(heap, word)?;
+    let outputs = evaluate(network, heap, inputs.as_slice())?;
+    Ok(packed(outputs.as_slice()))
+}
