@@ -6,15 +6,13 @@ use lib.Dec.{ltb, eqb}
 use lib.ListN.{getD, set}
 use Rattle.std.specs.declared.option.Option.{Option}
 use Rattle.std.specs.declared.option.Option.the-variants.{Some, None}
+use Rattle.values.specs.Bits.{xor}
 use Rattle.circuit.specs.declared.Gate.{Gate}
 use Rattle.circuit.specs.declared.Gate.the-variants.{Not, Cnot, And, Unand}
 
 -- the value of a line
 abbrev pub line : List Bool → ℕ → Bool
 line s i = getD s i false
-
-abbrev pub xor : Bool → Bool → Bool
-xor a b = cond a (not b) b
 
 -- one gate on a state; None is a fault
 abbrev pub step : Gate → List Bool → Option (List Bool)

@@ -3,6 +3,7 @@
 ghost use Prim.Native.Nat.{_<_};
 use network::Draft;
 use network::Network;
+use pseudorandom::Generator;
 use refusals::DraftRefusal;
 use std::alloc::Global;
 use std::io;
@@ -12,25 +13,6 @@ const DRAFTS: u16 = 100;
 const INPUTS: u16 = 64;
 
 const WIRES: u16 = 1024;
-
-// A linear congruential generator.
-#[derive(Drop)]
-struct Generator {
-    state: u64,
-}
-
-impl Generator {
-    // The next number, below n.
-    fn below(&mut self, n: u16) -> u16
-        requires some_number { ⌜ 0 < n ⌝ }
-        ensures is_below { λ r. ⌜ r < n ⌝ }
-    {
-        self.state = self.state
-            .wrapping_mul(6_364_136_223_846_793_005)
-            .wrapping_add(1_442_695_040_888_963_407);
-        ((self.state >> 33) % u64::from(n)) as u16
-    }
-}
 
 // What is counted.
 #[derive(Clone, Copy)]
@@ -94,7 +76,7 @@ fn outputs_sum(network: &Network) -> u64 {
 }
 
 fn counted(heap: Global) -> Result<Totals, DraftRefusal> {
-    let mut numbers = Generator { state: 1 };
+    let mut numbers = Generator::new(1);
     let mut totals = Totals { nodes: 0, sum: 0 };
     for _ in 0..DRAFTS {
         let network = sealed(random_draft(heap, &mut numbers)?)?;

@@ -1,31 +1,22 @@
 -- Words of bits, one bit more.
-use mathlib.Core.Path.{_≡_, refl, sym, ap, _∙_}
+use mathlib.Core.Path.{_≡_, refl, sym, ap, fun-ext, _∙_}
 use mathlib.Core.Bool.{Bool, true, false, cond}
-use mathlib.Core.List.{List, [], _∷_, _++_, map, append-assoc, append-nil}
-use Prim.Native.Nat.{ℕ, zero, suc, _+_, _-_, _*_, _/_, _%_, _^_, _<_, _≤_}
+use mathlib.Core.List.{List, [], _∷_, map}
+use mathlib.Core.Logic.{⊎-elim}
+use Prim.Native.Nat.{ℕ, _+_, _-_, _*_, _^_, _<_, _≤_}
 use native.Mathlib.Nat.{pow-suc}
 use native.Mathlib.Omega.{arith}
-use lib.Dec.{eqb, lit<}
+use lib.Dec.{lit<}
 use lib.ListN.{length, getD, drop, length-drop}
 use lib.Pow.{pow-mono}
 use mir.Val.{boolByte}
-use Rattle.std.proofs.shelf.Lists.{drop-more}
+use Rattle.std.proofs.shelf.Lists.{drop-more, getD-past}
+use Rattle.std.proofs.shelf.Tests.{cases-lt}
 use Rattle.values.specs.Bits.{bits}
+use Rattle.values.specs.Words.{bit, word-of}
+use Rattle.values.proofs.WordLaws.{bit-past}
 use Rattle.network.specs.Wires.{Net}
 use Rattle.network.specs.Values.{given, output-values}
-use Rattle.evaluation.specs.Words.{bits-of, word-of}
-
-pub bit-taken : (found more whole : List Bool) (i n : ℕ) → i < 64 → more ≡ found ++ eqb (n % 2) 1 ∷ [] → found ++ bits-of (64 - i) n ≡ whole → more ++ bits-of (64 - (i + 1)) (n / 2) ≡ whole
-bit-taken found more whole i n l e h =
-    let one-more : 64 - i ≡ suc (64 - (i + 1)) = omega arith in
-    ap (λ t. t ++ bits-of (64 - (i + 1)) (n / 2)) e
-    ∙ append-assoc found (eqb (n % 2) 1 ∷ []) (bits-of (64 - (i + 1)) (n / 2))
-    ∙ sym (ap (λ k. found ++ bits-of k n) one-more) ∙ h
-
-pub bits-taken : (found whole : List Bool) (i n : ℕ) → 64 ≤ i → found ++ bits-of (64 - i) n ≡ whole → found ≡ whole
-bits-taken found whole i n l h =
-    let none : 64 - i ≡ 0 = omega arith in
-    sym (append-nil found) ∙ sym (ap (λ k. found ++ bits-of k n) none) ∙ h
 
 word-lt : (bs : List Bool) → word-of bs < 2 ^ length bs
 word-lt [] = lit< tt
@@ -55,6 +46,12 @@ pub bits-meant : (bs : List Bool) → map (λ b. b) bs ≡ bs
 bits-meant [] = refl
 bits-meant (b ∷ bs) = ap (λ l. b ∷ l) (bits-meant bs)
 
+-- the inputs of a word: bits 0 to 63, and no other
+pub inputs-at : (word : ℕ) (bs : List Bool) → word < 18446744073709551616 → length bs ≡ 64 → ((i : ℕ) → i < 64 → getD bs i false ≡ bit word i) → given bits bs ≡ bit word
+inputs-at word bs l long h =
+    fun-ext (λ (i : ℕ). ⊎-elim (h i) (λ past. getD-past bs i false (omega arith) ∙ sym (bit-past word 64 i l past)) (cases-lt i 64))
+
 -- the outputs at a word, where the slices outs and ins hold outputs and inputs
-pub outputs-at : (s : Net) (word : ℕ) (ins outs known found : List Bool) → ins ≡ known → known ≡ bits-of 64 word → outs ≡ found → map (λ b. b) found ≡ output-values bits (given bits (map (λ b. b) ins)) s → outs ≡ output-values bits (given bits (bits-of 64 word)) s
-outputs-at s word ins outs known found p q r h = r ∙ sym (bits-meant found) ∙ h ∙ ap (λ l. output-values bits (given bits l) s) (bits-meant ins ∙ p ∙ q)
+pub outputs-at : (s : Net) (x : ℕ → Bool) (ins outs known found : List Bool) → ins ≡ known → given bits known ≡ x → outs ≡ found → map (λ b. b) found ≡ output-values bits (given bits (map (λ b. b) ins)) s → outs ≡ output-values bits x s
+outputs-at s x ins outs known found p q r h =
+    r ∙ sym (bits-meant found) ∙ h ∙ ap (λ l. output-values bits (given bits l) s) (bits-meant ins ∙ p) ∙ ap (λ y. output-values bits y s) q

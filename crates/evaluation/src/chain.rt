@@ -36,7 +36,11 @@ fn value_of_step<V: Algebra>(step: Step, inputs: &[V], values: &[V]) -> V
 }
 
 // The value of each wire.
-fn values_of_wires<V: Algebra>(network: &Network, heap: Global, inputs: &[V]) -> Result<Vec<V>, AllocError>
+fn values_of_wires<V: Algebra>(
+    network: &Network,
+    heap: Global,
+    inputs: &[V],
+) -> Result<Vec<V>, AllocError>
     ensures are_the_wire_values { λ r. ⌜ made r (λ v. map meaning (vec-items v) ≡ wire-values ring (given ring (map meaning (now (inputs .entry)))) (sealed (now (network .entry)))) ⌝ }
 {
     let mut values = Vec::new(heap);
@@ -58,7 +62,11 @@ fn values_at<V: Algebra>(heap: Global, values: &[V], places: &[u16]) -> Result<V
 }
 
 // The value of each output, at these inputs. Missing inputs count as zero, and further ones for nothing.
-pub fn evaluate<V: Algebra>(network: &Network, heap: Global, inputs: &[V]) -> Result<Vec<V>, AllocError>
+pub fn evaluate<V: Algebra>(
+    network: &Network,
+    heap: Global,
+    inputs: &[V],
+) -> Result<Vec<V>, AllocError>
     ensures are_the_output_values { λ r. ⌜ made r (λ v. map meaning (vec-items v) ≡ output-values ring (given ring (map meaning (now (inputs .entry)))) (sealed (now (network .entry)))) ⌝ }
     ensures network_has_the_value_of_its_chain { λ _. ⌜ ((x : ℕ → Meaning) → HasValueOfChain ring x (sealed (now (network .entry)))) ⌝ }
 {

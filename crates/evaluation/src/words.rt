@@ -1,28 +1,35 @@
 // The value of a network at words of bits.
 ghost use mathlib.Core.Path.{_≡_};
-ghost use Prim.Native.Nat.{_≤_};
-ghost use lib.ListN.{length};
-ghost use Rattle.std.specs.Of.Vec.{vec-items};
+ghost use mathlib.Core.Bool.{false};
+ghost use Prim.Native.Nat.{ℕ, _<_, _≤_};
+ghost use lib.ListN.{length, getD};
+ghost use Rattle.std.specs.Of.Vec.{vec-items, vec-len};
 ghost use Rattle.std.specs.Vec.{made};
 ghost use Rattle.values.specs.Bits.{bits};
+ghost use Rattle.values.specs.Words.{bit, word-of};
 ghost use Rattle.network.specs.Networks.{sealed};
-ghost use Rattle.network.specs.Values.{given, output-values};
-ghost use Rattle.evaluation.specs.Words.{bits-of, word-of};
+ghost use Rattle.network.specs.Values.{output-values};
 use crate::chain::evaluate;
 use network::Network;
 use std::alloc::AllocError;
 use std::alloc::Global;
 use values::BitAlgebra;
 
+// Bit i of a word.
+fn bit_of(word: u64, i: u32) -> bool
+    requires inside { ⌜ i < 64 ⌝ }
+    ensures is_bit_i { λ r. ⌜ r ≡ bit word i ⌝ }
+{
+    (word >> i) % 2 == 1
+}
+
 // The bits of a word, the lowest first.
 fn unpacked(heap: Global, word: u64) -> Result<Vec<bool>, AllocError>
-    ensures are_its_bits { λ r. ⌜ made r (λ v. vec-items v ≡ bits-of 64 word) ⌝ }
+    ensures are_its_bits { λ r. ⌜ made r (λ v. (vec-len v ≡ 64) × ((i : ℕ) → i < 64 → getD (vec-items v) i false ≡ bit word i)) ⌝ }
 {
     let mut found = Vec::new(heap);
-    let mut rest = word;
-    for _ in 0..64u8 {
-        found.push(rest % 2 == 1)?;
-        rest /= 2;
+    for i in 0..64 {
+        found.push(bit_of(word, i))?;
     }
     Ok(found)
 }
@@ -41,7 +48,7 @@ fn packed(flags: &[bool]) -> u64
 
 // The outputs at a word of inputs: bit i is input i, and bit j of the answer is output j.
 pub fn evaluate_word(network: &Network, heap: Global, word: u64) -> Result<u64, AllocError>
-    ensures is_the_word_of_outputs { λ r. ⌜ made r (λ v. v ≡ word-of (output-values bits (given bits (bits-of 64 word)) (sealed (now (network .entry))))) ⌝ }
+    ensures is_the_word_of_outputs { λ r. ⌜ made r (λ v. v ≡ word-of (output-values bits (bit word) (sealed (now (network .entry))))) ⌝ }
 {
     let inputs = unpacked(heap, word)?;
     let outputs = evaluate(network, heap, inputs.as_slice())?;

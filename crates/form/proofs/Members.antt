@@ -32,19 +32,6 @@ module _ (xs ys : List ℕ) (i : ℕ) (within : i < length xs) where
 pub outside-none : (xs ys : List ℕ) (i : ℕ) → length xs ≤ i → lowest-outside (drop i xs) ys ≡ None
 outside-none xs ys i h = rw (drop-all i xs h)
 
--- the loop's three ends, where the slices vs and ws hold the lists xs and ys
-module _ (vs xs ws ys : List ℕ) (i : ℕ) (p : vs ≡ xs) (q : ws ≡ ys) where
-  pub found-here : (r : Bool) (t : Option ℕ) → i < length vs → Some-of (λ y b. Decides b (y ≡ getD vs i 0)) ws r → r ≡ false → lowest-outside (drop i xs) ys ≡ t → Some (getD vs i 0) ≡ t
-  found-here r t l h f inv =
-      sym (outside-here vs ws i l (sym (contains-is _ ws r h) ∙ f)) ∙ (λ k. lowest-outside (drop i (p k)) (q k)) ∙ inv
-
-  pub passed-here : (r : Bool) (t : Option ℕ) → i < length vs → Some-of (λ y b. Decides b (y ≡ getD vs i 0)) ws r → r ≡ true → lowest-outside (drop i xs) ys ≡ t → lowest-outside (drop (i + 1) xs) ys ≡ t
-  passed-here r t l h f inv =
-      sym (λ k. lowest-outside (drop (i + 1) (p k)) (q k)) ∙ sym (outside-later vs ws i l (sym (contains-is _ ws r h) ∙ f)) ∙ (λ k. lowest-outside (drop i (p k)) (q k)) ∙ inv
-
-pub all-passed : (vs xs ys : List ℕ) (i : ℕ) (t : Option ℕ) → vs ≡ xs → length vs ≤ i → lowest-outside (drop i xs) ys ≡ t → None ≡ t
-all-passed vs xs ys i t p h inv = sym (outside-none vs ys i h) ∙ (λ k. lowest-outside (drop i (p k)) ys) ∙ inv
-
 pub same-decides : (xs ys : List ℕ) → Decides (same-set xs ys) (xs ≡ ys)
 same-decides xs ys = compares-decides same-set (search needs) xs ys
 

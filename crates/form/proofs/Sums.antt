@@ -1,4 +1,4 @@
--- Sums in a Boolean ring, and the sum over a symmetric difference.
+-- The sum over a symmetric difference.
 use mathlib.Core.Path.{_≡_, refl, sym, ap, _∙_}
 use mathlib.Core.Bool.{true}
 use mathlib.Core.List.{List, [], _∷_}
@@ -6,34 +6,21 @@ use Prim.Native.Nat.{ℕ, _<_}
 use lib.Dec.{ltb, eqb}
 use Rattle.std.proofs.shelf.Tests.{eqb-true, ltb-true, and-parts, cond-both}
 use Rattle.values.specs.Rings.{BooleanRing}
+use Rattle.values.proofs.RingLaws.{zero-sum, sum-twice, sum-swap}
 use Rattle.form.specs.Sets.{all-below, toggle, symmetric-difference}
 use Rattle.form.specs.Values.{sum-of}
 
 module _ {V : Type 0} (R : BooleanRing V) where
-  pub zero-sum : (x : V) → R .sum (R .zero) x ≡ x
-  zero-sum x = R .sum-comm (R .zero) x ∙ R .sum-zero x
-
-  -- x + (x + y) is y
-  pub sum-twice : (x y : V) → R .sum x (R .sum x y) ≡ y
-  sum-twice x y = sym (R .sum-assoc x x y) ∙ ap (λ z. R .sum z y) (R .sum-self x) ∙ zero-sum y
-
-  pub sum-swap : (x y z : V) → R .sum x (R .sum y z) ≡ R .sum y (R .sum x z)
-  sum-swap x y z = sym (R .sum-assoc x y z) ∙ ap (λ t. R .sum t z) (R .sum-comm x y) ∙ R .sum-assoc y x z
-
-  -- (a + b) + (x + y) is (a + x) + (b + y)
-  pub sum-pairs : (a b x y : V) → R .sum (R .sum a b) (R .sum x y) ≡ R .sum (R .sum a x) (R .sum b y)
-  sum-pairs a b x y = R .sum-assoc a b (R .sum x y) ∙ ap (R .sum a) (sum-swap b x y) ∙ sym (R .sum-assoc a x (R .sum b y))
-
   pub sum-toggle : (at : ℕ → V) (x : ℕ) (ys : List ℕ) → sum-of R at (toggle x ys) ≡ R .sum (at x) (sum-of R at ys)
   sum-toggle at x [] = refl
   sum-toggle at x (y ∷ ys) =
       cond-both (ltb x y) _ _ (λ l. sum-of R at l ≡ R .sum (at x) (R .sum (at y) (sum-of R at ys))) (λ _. refl)
       (λ _. cond-both (eqb x y) _ _ (λ l. sum-of R at l ≡ R .sum (at x) (R .sum (at y) (sum-of R at ys)))
-      (λ e. sym (sum-twice (at x) (sum-of R at ys)) ∙ ap (λ z. R .sum (at x) (R .sum (at z) (sum-of R at ys))) (eqb-true x y e))
-      (λ _. ap (R .sum (at y)) (sum-toggle at x ys) ∙ sum-swap (at y) (at x) (sum-of R at ys)))
+      (λ e. sym (sum-twice R (at x) (sum-of R at ys)) ∙ ap (λ z. R .sum (at x) (R .sum (at z) (sum-of R at ys))) (eqb-true x y e))
+      (λ _. ap (R .sum (at y)) (sum-toggle at x ys) ∙ sum-swap R (at y) (at x) (sum-of R at ys)))
 
   pub sum-difference : (at : ℕ → V) (xs ys : List ℕ) → sum-of R at (symmetric-difference xs ys) ≡ R .sum (sum-of R at xs) (sum-of R at ys)
-  sum-difference at [] ys = sym (zero-sum (sum-of R at ys))
+  sum-difference at [] ys = sym (zero-sum R (sum-of R at ys))
   sum-difference at (x ∷ xs) ys =
       sum-toggle at x (symmetric-difference xs ys) ∙ ap (R .sum (at x)) (sum-difference at xs ys) ∙ sym (R .sum-assoc (at x) (sum-of R at xs) (sum-of R at ys))
 

@@ -1,4 +1,4 @@
--- The value of a form under each operation, and the rules of AND.
+-- The value of a form under each operation.
 use mathlib.Core.Path.{_≡_, refl, sym, ap, _∙_}
 use mathlib.Core.Bool.{Bool, true, false, not, cond}
 use mathlib.Core.List.{List, [], _∷_}
@@ -6,29 +6,17 @@ use Prim.Native.Nat.{ℕ, _<_}
 use Rattle.std.proofs.shelf.Tests.{false≢true}
 use Rattle.values.specs.Rings.{BooleanRing}
 use Rattle.values.specs.Bits.{xor}
+use Rattle.values.proofs.RingLaws.{zero-sum, sum-pairs}
 use Rattle.form.specs.Sets.{all-below, is-empty}
 use Rattle.form.specs.Shapes.{Shape, zero-form, element-form, xor-form, inverted-form}
 use Rattle.form.specs.Values.{sum-of, bit-value, value}
-use Rattle.form.proofs.Sums.{zero-sum, sum-pairs, sum-difference, sum-alike}
+use Rattle.form.proofs.Sums.{sum-difference, sum-alike}
 
 pub empty-is : (xs : List ℕ) → is-empty xs ≡ true → xs ≡ []
 empty-is [] h = refl
 empty-is (x ∷ xs) h = absurd (false≢true h)
 
 module _ {V : Type 0} (R : BooleanRing V) where
-  pub product-zero : (x : V) → R .product x (R .zero) ≡ R .zero
-  product-zero x = ap (R .product x) (sym (R .sum-self x)) ∙ R .distributes x x x ∙ R .sum-self (R .product x x)
-
-  pub zero-product : (x : V) → R .product (R .zero) x ≡ R .zero
-  zero-product x = R .product-comm (R .zero) x ∙ product-zero x
-
-  pub one-product : (x : V) → R .product (R .one) x ≡ x
-  one-product x = R .product-comm (R .one) x ∙ R .product-one x
-
-  -- a value times its complement
-  pub product-complement : (x : V) → R .product x (R .sum (R .one) x) ≡ R .zero
-  product-complement x = R .distributes x (R .one) x ∙ (λ i. R .sum (R .product-one x i) (R .product-self x i)) ∙ R .sum-self x
-
   xor-value : (a b : Bool) → bit-value R (xor a b) ≡ R .sum (bit-value R a) (bit-value R b)
   xor-value true true = sym (R .sum-self (R .one))
   xor-value true false = sym (R .sum-zero (R .one))

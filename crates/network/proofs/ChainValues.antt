@@ -11,12 +11,13 @@ use Rattle.std.proofs.shelf.Lists.{length-push, getD-push, getD-append-left, ge
 use Rattle.std.proofs.shelf.Tests.{cond-both, cond-true, cond-false, lt-ltb, le-ltb, ltb-true, and-parts, cases-lt}
 use Rattle.values.specs.Rings.{BooleanRing}
 use Rattle.values.specs.Bits.{xor}
+use Rattle.values.proofs.RingLaws.{zero-product, product-zero, one-product, product-complement}
 use Rattle.form.specs.Sets.{all-below, is-empty, same-set}
 use Rattle.form.specs.Shapes.{Shape, zero-form, element-form, xor-form, inverted-form}
 use Rattle.form.specs.Values.{value}
 use Rattle.form.proofs.Below.{below-at}
 use Rattle.form.proofs.Members.{same-decides}
-use Rattle.form.proofs.Values.{empty-is, value-xor, value-inverted, value-element, value-zero, value-empty, value-like, value-unlike, value-alike, zero-product, product-zero, one-product, product-complement}
+use Rattle.form.proofs.Values.{empty-is, value-xor, value-inverted, value-element, value-zero, value-empty, value-like, value-unlike, value-alike}
 use Rattle.network.specs.Wires.{Net, WireShape, NodeShape, Body, no-wire, no-node, no-wires, form-at, node-at, and-form, with-wire, with-node, add-and, add, grown, fits, valid, within, proper-node, proper-nodes, wire-count}
 use Rattle.network.specs.Values.{steps, step-value, chain, basis, next-node, node-values, element-value, form-value, wire-value, HasValueOfChain}
 use Rattle.network.specs.declared.wire.Step.{Step}

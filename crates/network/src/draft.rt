@@ -15,10 +15,10 @@ mod ops;
 #[derive(Drop)]
 pub struct Draft {
     heap: Global,
-    inputs: u16,
-    wires: Vec<Wire>,
-    nodes: Vec<Node>,
-    outputs: Vec<u16>,
+    pub(crate) inputs: u16,
+    pub(crate) wires: Vec<Wire>,
+    pub(crate) nodes: Vec<Node>,
+    pub(crate) outputs: Vec<u16>,
     ghost some_input: { 1 ≤ inputs },
     ghost input_limit: { inputs ≤ 64 },
     ghost wire_limit: { vec-len wires ≤ 1024 },

@@ -1,1 +1,3 @@
+pub mod RingLaws
 pub mod Sets
+pub mod WordLaws

@@ -35,6 +35,25 @@ fn merge(heap: Global, a: &[u16], b: &[u16]) -> Result<Vec<u16>, AllocError>
     Ok(out)
 }
 
+// Whether two slices have the same elements.
+fn same_elements(a: &[u16], b: &[u16]) -> bool
+    ensures tells_if_same { λ r. ⌜ r ≡ same-set (now (a .entry)) (now (b .entry)) ⌝ }
+{
+    a == b
+}
+
+// The first element of a that b lacks.
+fn first_outside(a: &[u16], b: &[u16]) -> Option<u16>
+    ensures is_first_outside { λ r. ⌜ r ≡ lowest-outside (now (a .entry)) (now (b .entry)) ⌝ }
+{
+    for e in a {
+        if !b.contains(e) {
+            return Some(*e);
+        }
+    }
+    None
+}
+
 impl Form {
     // The form with no element and constant 0.
     pub fn zero(heap: Global) -> Form
@@ -102,7 +121,7 @@ impl Form {
     pub fn same_set(&self, other: &Form) -> bool
         ensures tells_if_same { λ r. ⌜ r ≡ same-set (shape (now (self .entry)) .set) (shape (now (other .entry)) .set) ⌝ }
     {
-        self.elements() == other.elements()
+        same_elements(self.elements(), other.elements())
     }
 
     // The elements, ascending.
@@ -116,11 +135,6 @@ impl Form {
     pub fn lowest_outside(&self, other: &Form) -> Option<u16>
         ensures is_lowest_outside { λ r. ⌜ r ≡ lowest-outside (shape (now (self .entry)) .set) (shape (now (other .entry)) .set) ⌝ }
     {
-        for e in self.elements() {
-            if !other.elements().contains(e) {
-                return Some(*e);
-            }
-        }
-        None
+        first_outside(self.elements(), other.elements())
     }
 }

@@ -128,7 +128,7 @@ impl Draft {
     }
 
     // The form of a wire.
-    fn form(&self, i: u16) -> &Form
+    pub(crate) fn form(&self, i: u16) -> &Form
         requires exists { ⌜ i < vec-len (now self .wires) ⌝ }
         ensures is_its_form { λ r. ⌜ shape (now r) ≡ form-at (drafted (now (self .entry)) .body) i ⌝ }
     {
@@ -279,11 +279,6 @@ impl Draft {
         if self.sealable().is_err() {
             return Err(self);
         }
-        Ok(Network {
-            inputs: self.inputs,
-            wires: self.wires,
-            nodes: self.nodes,
-            outputs: self.outputs,
-        })
+        Ok(Network { draft: self })
     }
 }

@@ -6,13 +6,13 @@ use Rattle.std.specs.Of.Vec.{vec-items}
 use Rattle.std.specs.Vec.{made}
 use Rattle.network.specs.Networks.{sealed}
 use Rattle.network.specs.Values.{given, wire-values, output-values}
-use Rattle.network.proofs.Theorem.{network-has-value-of-chain}
+use Rattle.network.proofs.Theorem.{draft-has-value-of-chain}
 use Rattle.evaluation.proofs.chain.evaluate.Needs as need
 
 pub returns-in-Break-values : need.returns-in-Break-values
 returns-in-Break-values g c = record {
   are-the-output-values = search needs;
-  network-has-the-value-of-its-chain = λ x. network-has-value-of-chain (g .V·Algebra .ring) x (c .args .network .now);
+  network-has-the-value-of-its-chain = λ x. draft-has-value-of-chain (g .V·Algebra .ring) x (c .args .network .now .draft);
 }
 
 pub returns : need.returns
@@ -27,5 +27,5 @@ returns g c =
     (λ k. map (λ w. getD (known k) w (R .zero)) (c .output-wires .ensures .are-the-output-wires k)) in
     record {
       are-the-output-values = subst (λ (l : List V). made (c .values-at .result) (λ v. map m (vec-items v) ≡ l)) there (c .values-at .ensures .are-the-values-there);
-      network-has-the-value-of-its-chain = λ x. network-has-value-of-chain R x (c .args .network .now);
+      network-has-the-value-of-its-chain = λ x. draft-has-value-of-chain R x (c .args .network .now .draft);
     }

@@ -3,7 +3,7 @@ use Prim.Native.Nat.{_-_}
 use native.Mathlib.Omega.{arith}
 use lib.ListN.{length}
 use Rattle.std.proofs.shelf.Lists.{drop-all}
-use Rattle.evaluation.specs.Words.{word-of}
+use Rattle.values.specs.Words.{word-of}
 use Rattle.evaluation.proofs.Packing.{bit-added, word-fits}
 use Rattle.evaluation.proofs.words.packed.Needs as need
 

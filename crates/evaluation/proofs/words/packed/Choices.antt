@@ -1,6 +1,6 @@
 use mathlib.Core.Path.{_≡_}
 use lib.ListN.{drop}
-use Rattle.evaluation.specs.Words.{word-of}
+use Rattle.values.specs.Words.{word-of}
 use Rattle.evaluation.proofs.words.packed.Given as given
 
 abbrev pub Inv-loop-i : given.InvT-loop-i

@@ -1,9 +1,21 @@
-use Rattle.std.specs.Of.Vec.{vec-items}
-use Rattle.evaluation.proofs.Packing.{bit-taken, bits-taken}
+use mathlib.Core.Path.{_≡_, ap, _∙_}
+use mathlib.Core.Bool.{false}
+use Prim.Native.Nat.{ℕ, _<_}
+use borrow.Author.Count.{below-more}
+use native.Mathlib.Omega.{arith}
+use lib.ListN.{length, getD}
+use Rattle.std.specs.Of.Vec.{vec-items, vec-len}
+use Rattle.std.proofs.shelf.Lists.{getD-push, getD-append-left}
 use Rattle.evaluation.proofs.words.unpacked.Needs as need
 
-pub loop-again : need.loop-again
-loop-again c = bit-taken (vec-items (c .loop .found)) _ _ (c .loop .counter) (c .loop .rest) (c .loop-test .taken) (c .in-Continue-push .ensures tt .items) (c .loop .inv)
-
-pub returns : need.returns
-returns c = record { are-its-bits = bits-taken (vec-items (c .loop .found)) _ (c .loop .counter) (c .loop .rest) (c .loop-test .left) (c .loop .inv) }
+pub loop-i-again : need.loop-i-again
+loop-i-again c =
+    let vs = c .loop-i .found in
+    let i = c .loop-i .i in
+    let inv = c .loop-i .inv in
+    let more = c .in-Continue-push .ensures tt .items in (
+      omega (arith, c .in-Continue-push .ensures tt .len, inv .0),
+      below-more _ i
+          (λ k l. ap (λ bs. getD bs k false) more ∙ getD-append-left (vec-items vs) _ false k (omega (arith, vs .ok .0, inv .0)) ∙ inv .1 k l)
+          (ap (λ bs. getD bs i false) more ∙ getD-push (vec-items vs) _ false i (omega (arith, vs .ok .0, inv .0)) ∙ c .bit-of .ensures .is-bit-i),
+    )

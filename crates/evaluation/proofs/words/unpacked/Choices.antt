@@ -1,9 +1,10 @@
 use mathlib.Core.Path.{_≡_}
-use mathlib.Core.List.{_++_}
-use Prim.Native.Nat.{_-_}
-use Rattle.std.specs.Of.Vec.{vec-items}
-use Rattle.evaluation.specs.Words.{bits-of}
+use mathlib.Core.Bool.{false}
+use Prim.Native.Nat.{ℕ, _<_}
+use lib.ListN.{getD}
+use Rattle.std.specs.Of.Vec.{vec-items, vec-len}
+use Rattle.values.specs.Words.{bit}
 use Rattle.evaluation.proofs.words.unpacked.Given as given
 
-abbrev pub Inv-loop : given.InvT-loop
-Inv-loop l = vec-items (l .found) ++ bits-of (64 - l .counter) (l .rest) ≡ bits-of 64 (l .word)
+abbrev pub Inv-loop-i : given.InvT-loop-i
+Inv-loop-i l = (vec-len (l .found) ≡ l .i) × ((k : ℕ) → k < l .i → getD (vec-items (l .found)) k false ≡ bit (l .word) k)

@@ -5,28 +5,27 @@ use lib.ListN.{length, getD}
 use Rattle.std.specs.Of.Vec.{vec-items, vec-len}
 use Rattle.std.proofs.shelf.Lists.{getD-read}
 use Rattle.form.proofs.Below.{below-at}
-use Rattle.network.specs.Wires.{body-of, form-at}
-use Rattle.network.proofs.Lookups.{lent-form}
+use Rattle.network.specs.Wires.{form-at}
+use Rattle.network.specs.Drafts.{drafted}
 use Rattle.network.proofs.network.Network.output.Needs as need
+use Rattle.network.proofs.network.Network.output.Needs.{In-Continue-wire}
 
-pub index-requires : need.index-requires
-index-requires c κs =
-    let n = c .args .self .now in
-    let j = c .args .j in
-    let w = c .in-Continue-wire .field-0 .now in
+-- output j is there, and its wire is the one that was read
+found : (c : In-Continue-wire) → (c .args .j < length (vec-items (c .args .self .now .draft .outputs))) × (c .in-Continue-wire .field-0 .now ≡ getD (vec-items (c .args .self .now .draft .outputs)) (c .args .j) (c .in-Continue-wire .field-0 .now))
+found c =
     let lent = c .in-Continue-wire .ensures tt .is-item-i in
-    let within : j < length (vec-items (n .outputs)) = omega (arith, ap length (c .as-slice .ensures .value), lent .3 .0) in
-    let is : w ≡ getD (vec-items (n .outputs)) j w = lent .1 ∙ ap (λ l. getD l j w) (c .as-slice .ensures .value) in
-    omega (arith, below-at (vec-items (n .outputs)) (vec-len (n .wires)) j w (n .«outputs_exist») within, is)
+    let same = c .output-wires .ensures .are-the-output-wires in
+    (omega (arith, ap length same, lent .3 .0), lent .1 ∙ ap (λ l. getD l (c .args .j) (c .in-Continue-wire .field-0 .now)) same)
+
+pub form-requires : need.form-requires
+form-requires c κs =
+    let d = c .args .self .now .draft in
+    let w = c .in-Continue-wire .field-0 .now in
+    let f = found (need.at·form-requires c .In-Continue-wire) in
+    record { exists = omega (arith, below-at (vec-items (d .outputs)) (vec-len (d .wires)) (c .args .j) w (d .«outputs_exist») (f .0), f .1) }
 
 pub returns : need.returns
 returns c =
-    let n = c .args .self .now in
-    let j = c .args .j in
-    let w = c .in-Continue-wire .field-0 .now in
-    let lent = c .in-Continue-wire .ensures tt .is-item-i in
-    let within : j < length (vec-items (n .outputs)) = omega (arith, ap length (c .as-slice .ensures .value), lent .3 .0) in
-    let is : w ≡ getD (vec-items (n .outputs)) j w = lent .1 ∙ ap (λ l. getD l j w) (c .as-slice .ensures .value) in
-    let low : w < length (vec-items (n .wires)) = omega (arith, below-at (vec-items (n .outputs)) (vec-len (n .wires)) j w (n .«outputs_exist») within, is, n .wires .ok .0) in
-    let form = lent-form (vec-items (n .wires)) (vec-items (n .nodes)) w (c .index .result .now) low (c .index .ensures) in
-    record { is-form-of-output-j = (within, form ∙ ap (form-at (body-of (vec-items (n .wires)) (vec-items (n .nodes)))) (getD-read (vec-items (n .outputs)) j w within is 0)) }
+    let d = c .args .self .now .draft in
+    let f = found (need.at·returns c .In-Continue-wire) in
+    record { is-form-of-output-j = (f .0, c .form .ensures .is-its-form ∙ ap (form-at (drafted d .body)) (getD-read (vec-items (d .outputs)) (c .args .j) (c .in-Continue-wire .field-0 .now) (f .0) (f .1) 0)) }

@@ -1,0 +1,4 @@
+mod Numbers
+mod StepLaws
+mod Masks
+mod Products
