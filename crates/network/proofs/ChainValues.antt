@@ -1,9 +1,9 @@
 -- A network has the value of its Boolean chain, in every Boolean ring.
 use mathlib.Core.Path.{_≡_, refl, sym, ap, subst, _∙_}
-use mathlib.Core.Bool.{Bool, true, false, not, cond, _&&_}
-use mathlib.Core.List.{List, [], _∷_, _++_, map}
+use mathlib.Core.Bool.{true, cond, _&&_}
+use mathlib.Core.List.{List, [], _∷_, _++_}
 use mathlib.Core.Logic.{⊎-elim}
-use Prim.Native.Nat.{ℕ, zero, suc, _+_, _-_, _<_, _≤_}
+use Prim.Native.Nat.{ℕ, zero, suc, _+_, _-_, _<_}
 use native.Mathlib.Omega.{arith}
 use lib.Dec.{ltb}
 use lib.ListN.{length, getD}
@@ -18,12 +18,12 @@ use Rattle.form.specs.Values.{value}
 use Rattle.form.proofs.Below.{below-at}
 use Rattle.form.proofs.Members.{same-decides}
 use Rattle.form.proofs.Values.{empty-is, value-xor, value-inverted, value-element, value-zero, value-empty, value-like, value-unlike, value-alike}
-use Rattle.network.specs.Wires.{Net, WireShape, NodeShape, Body, no-wire, no-node, no-wires, form-at, node-at, and-form, with-wire, with-node, add-and, add, grown, fits, valid, within, proper-node, proper-nodes, wire-count}
-use Rattle.network.specs.Values.{steps, step-value, chain, basis, next-node, node-values, element-value, form-value, wire-value, HasValueOfChain}
+use Rattle.network.specs.Wires.{Net, WireShape, NodeShape, Body, no-wire, no-node, no-wires, form-at, and-form, with-wire, with-node, add-and, add, grown, fits, valid, within, proper-node, proper-nodes, wire-count}
+use Rattle.network.specs.Values.{steps, step-value, chain, basis, next-node, node-values, wire-value, HasValueOfChain}
 use Rattle.network.specs.declared.wire.Step.{Step}
 use Rattle.network.specs.declared.wire.Step.the-variants.{Input, Xor, And, Inv}
 use Rattle.network.proofs.Kept.{add-length, proper-chain}
-use Rattle.network.proofs.Proper.{Proper, and-cases, within-below, form-within, nodes-at, proper-add, proper-with-node}
+use Rattle.network.proofs.Proper.{Proper, and-cases, within-below, form-within, proper-add}
 
 module _ {V : Type 0} (R : BooleanRing V) where
   -- the three rules of AND that take no node, where basis elements have the values at

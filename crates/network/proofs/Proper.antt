@@ -1,6 +1,6 @@
 -- The rules keep forms within the basis, and nodes proper.
-use mathlib.Core.Path.{_≡_, refl, sym, ap, subst, _∙_}
-use mathlib.Core.Bool.{Bool, true, false, not, cond, _&&_}
+use mathlib.Core.Path.{_≡_, refl, sym, ap, subst}
+use mathlib.Core.Bool.{true, false, not, cond, _&&_}
 use mathlib.Core.List.{List, [], _∷_, _++_}
 use Prim.Native.Nat.{ℕ, zero, suc, _+_, _<_, _≤_}
 use native.Mathlib.Nat.{add-zero}
@@ -13,10 +13,10 @@ use Rattle.std.proofs.shelf.Lists.{length-push}
 use Rattle.std.proofs.shelf.Tests.{cond-both, lt-ltb, ltb-true, and-parts, and-from}
 use Rattle.values.specs.Bits.{xor}
 use Rattle.form.specs.Sets.{ascending, all-below, is-empty, same-set, symmetric-difference}
-use Rattle.form.specs.Shapes.{Shape, zero-form, element-form, xor-form, inverted-form}
+use Rattle.form.specs.Shapes.{Shape, zero-form, element-form, xor-form}
 use Rattle.form.proofs.Below.{below-more, below-difference}
 use Rattle.form.proofs.Merges.{asc-difference}
-use Rattle.network.specs.Wires.{WireShape, NodeShape, Body, no-wire, no-node, no-wires, form-at, and-form, with-wire, with-node, add-and, add, grown, fits, valid, within, forms-within, proper-node, proper-nodes}
+use Rattle.network.specs.Wires.{WireShape, NodeShape, Body, no-wire, no-node, form-at, and-form, with-wire, with-node, add-and, add, fits, within, forms-within, proper-node, proper-nodes}
 use Rattle.network.specs.declared.wire.Step.{Step}
 use Rattle.network.specs.declared.wire.Step.the-variants.{Input, Xor, And, Inv}
 
@@ -58,7 +58,7 @@ forms-push k (v ∷ ws) w h i =
     let t = and-parts (within k (v .form)) (forms-within k ws) h in
     and-from (within k (v .form)) _ (t .0) (forms-push k ws w (t .1) i)
 
-forms-at : (k : ℕ) (ws : List WireShape) (i : ℕ) → forms-within k ws ≡ true → within k (getD ws i no-wire .form) ≡ true
+pub forms-at : (k : ℕ) (ws : List WireShape) (i : ℕ) → forms-within k ws ≡ true → within k (getD ws i no-wire .form) ≡ true
 forms-at k [] i h = refl
 forms-at k (w ∷ ws) zero h = and-parts (within k (w .form)) (forms-within k ws) h .0
 forms-at k (w ∷ ws) (suc i) h = forms-at k ws i (and-parts (within k (w .form)) (forms-within k ws) h .1)
@@ -89,16 +89,13 @@ module _ (n : ℕ) (b : Body) (h : Proper n b) where
   proper-wire : (s : Step) (f : Shape) → within (n + length (b .nodes)) f ≡ true → Proper n (with-wire b s f)
   proper-wire s f i = record { forms = forms-push (n + length (b .nodes)) (b .wires) (record { step = s; form = f }) (h .forms) i; nodes = h .nodes }
 
-  pub proper-with-node : (f g : Shape) → proper-node (n + length (b .nodes)) (record { first = f; second = g }) ≡ true → Proper n (with-node b f g)
+  proper-with-node : (f g : Shape) → proper-node (n + length (b .nodes)) (record { first = f; second = g }) ≡ true → Proper n (with-node b f g)
   proper-with-node f g i =
       let d : NodeShape = record { first = f; second = g } in
       record {
         forms = forms-more (n + length (b .nodes)) _ (b .wires) (omega (arith, length-push (b .nodes) d)) (h .forms);
         nodes = nodes-push n (b .nodes) d (h .nodes) i;
       }
-
-  turned : (p : Bool) → p ≡ false → not p ≡ true
-  turned p e = ap not e
 
   proper-pair : (i j : ℕ) → is-empty (form-at b i .set) ≡ false → is-empty (form-at b j .set) ≡ false → same-set (form-at b i .set) (form-at b j .set) ≡ false → proper-node (n + length (b .nodes)) (record { first = form-at b i; second = form-at b j }) ≡ true
   proper-pair i j e f g =

@@ -9,9 +9,9 @@ use Rattle.std.proofs.shelf.Lists.{length-map}
 use Rattle.values.specs.Rings.{BooleanRing}
 use Rattle.values.proofs.Sets.{ring-set}
 use Rattle.form.specs.Sets.{all-below}
-use Rattle.network.specs.Wires.{wire-shape, steps-of, grown, no-wires, valid, wire-count}
+use Rattle.network.specs.Wires.{wire-shape, steps-of, grown, no-wires, valid}
 use Rattle.network.specs.Drafts.{drafted}
-use Rattle.network.specs.Values.{steps, HasValueOfChain}
+use Rattle.network.specs.Values.{HasValueOfChain}
 use Rattle.network.specs.declared.draft.Draft.{Draft}
 use Rattle.network.specs.declared.wire.Wire.{Wire}
 use Rattle.network.proofs.ChainValues.{has-value-of-chain}

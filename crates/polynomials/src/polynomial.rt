@@ -5,7 +5,7 @@ use crate::words;
 use values::Algebra;
 
 // A polynomial in six variables: bit s is the coefficient of the product of the variables in the binary set s.
-#[derive(Clone, Copy)]
+#[derive(Clone, Copy, PartialEq, Eq, Debug)]
 pub struct Polynomial {
     coefficients: u64,
 }

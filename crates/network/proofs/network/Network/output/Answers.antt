@@ -7,6 +7,7 @@ use Rattle.std.proofs.shelf.Lists.{getD-read}
 use Rattle.form.proofs.Below.{below-at}
 use Rattle.network.specs.Wires.{form-at}
 use Rattle.network.specs.Drafts.{drafted}
+use Rattle.network.proofs.Lookups.{form-found}
 use Rattle.network.proofs.network.Network.output.Needs as need
 use Rattle.network.proofs.network.Network.output.Needs.{In-Continue-wire}
 
@@ -28,4 +29,8 @@ pub returns : need.returns
 returns c =
     let d = c .args .self .now .draft in
     let f = found (need.at·returns c .In-Continue-wire) in
-    record { is-form-of-output-j = (f .0, c .form .ensures .is-its-form ∙ ap (form-at (drafted d .body)) (getD-read (vec-items (d .outputs)) (c .args .j) (c .in-Continue-wire .field-0 .now) (f .0) (f .1) 0)) }
+    let w = c .in-Continue-wire .field-0 .now in
+    record {
+      is-form-of-output-j = (f .0, c .form .ensures .is-its-form ∙ ap (form-at (drafted d .body)) (getD-read (vec-items (d .outputs)) (c .args .j) w (f .0) (f .1) 0));
+      form-is-in-the-basis = form-found d w _ (c .form .ensures .is-its-form);
+    }
