@@ -1,17 +1,15 @@
 -- Whether a list holds a number.
-use Rattle.std.proofs.Common.{◌≡◌, ℕ, ◌+◌, ◌<◌, ◌≤◌, Bool, true, false, eqb, List, length, get_or, drop, Some, None, Decides, refl, rules}
-use Rattle.std.specs.List.{IsAnyAnswer}
-use Rattle.std.proofs.lemmas.List.Elements.{contains_decides}
+use Rattle.std.proofs.Common.{◌≡◌, ℕ, ◌+◌, ◌<◌, ◌≤◌, Bool, true, false, ◌||◌, ◌∷◌, [], ap, eqb, List, length, get_or, drop, Some, None, Decides, refl, rules}
+use Rattle.std.specs.List.{list_any}
 use Rattle.std.proofs.lemmas.List.{drop_more, drop_all}
 use Rattle.std.proofs.lemmas.Bool.{cond-true, cond-false}
-use Rattle.std.proofs.lemmas.Bool.Decides.{same_from_decides, Decides-by_or, Decides-eqb}
+use Rattle.std.proofs.lemmas.Bool.Decides.{same_from_decides}
 use Rattle.std.proofs.lemmas.Slice.Eq.{compares_Decides}
 use Rattle.form.specs.Sets.{member, lowest_outside, same_set}
 
-pub contains_is : (x : ℕ) (ys : List ℕ) (r : Bool) → IsAnyAnswer (λ y t. Decides t (y ≡ x)) ys r → r ≡ member x ys
-contains_is x ys r h =
-    same_from_decides r (member x ys) (contains_decides eqb Decides-eqb ys x r h)
-    (Decides-by_or (λ y. eqb y x) (λ y. y ≡ x) (member x) (λ y. Decides-eqb y x) refl (λ _ _. refl) ys)
+pub contains_is : (x : ℕ) (ys : List ℕ) → list_any (λ y. eqb y x) ys ≡ member x ys
+contains_is x [] = refl
+contains_is x (y ∷ ys) = ap (λ b. eqb y x || b) (contains_is x ys)
 
 module _ (xs ys : List ℕ) (i : ℕ) (within : i < length xs) where
   pub outside_here : member (get_or xs i 0) ys ≡ false → lowest_outside (drop i xs) ys ≡ Some (get_or xs i 0)

@@ -9,7 +9,7 @@ use Rattle.bristol.proofs.read_network.Goals as goal
 pub returns : goal.returns
 returns c =
     let ps = cut 0 [] c.args.text.now in
-    let short = c.if-is-too-long.ensures.has_more_than_65536_bytes in
+    let short = c.if-is_too_long.ensures.has_more_than_65536_bytes in
     let read = c.read.ensures.is_the_network_of_the_pieces in
     record {
       too_long_is_refused_first = not_too_long sealed c.read.result ps read ∙ short;

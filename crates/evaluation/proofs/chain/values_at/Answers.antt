@@ -9,7 +9,7 @@ loop-place-preserved g c =
     let at : ℕ → V = λ w. get_or (map m c.args.values.now) w g.V.Algebra.ring.zero in
     let ws = c.args.places.now in
     let i = c.loop-place.place-index in
-    ap (map m) c.in-ok-push.ensures.items
+    ap (map m) c.in_ok-push.ensures.items
     ∙ map_push m (vec_items c.loop-place.found) c.value_at.result
     ∙ (λ k. c.loop-place.invariant k ++ c.value_at.ensures.is_value_i_or_zero k ∷ [])
     ∙ sym (map_push at (take i ws) (get_or ws i 0))

@@ -21,10 +21,10 @@ loop-e-preserved c =
     let more = at_drop_more F xs i 0 c.loop-e-test.true in
     elim c.if-e-carrier.branch [
       | then-e-carrier w ↦
-          let g = Cnot w.line_of.result c.line-of-t.result ∷ [] in
+          let g = Cnot w.line_of.result c.line_of-t.result ∷ [] in
           let same : g ++ rest ≡ F (drop i xs)
-          = ap (λ l. (Cnot l c.line-of-t.result ∷ []) ++ rest) w.line_of.ensures.is_line_of_element
-          ∙ ap (λ l. (Cnot (at e) l ∷ []) ++ rest) c.line-of-t.ensures.is_line_of_element
+          = ap (λ l. (Cnot l c.line_of-t.result ∷ []) ++ rest) w.line_of.ensures.is_line_of_element
+          ∙ ap (λ l. (Cnot (at e) l ∷ []) ++ rest) c.line_of-t.ensures.is_line_of_element
           ∙ sym (more ∙ ap (λ b. cond b rest (Cnot (at e) (at c.args.carrier) ∷ rest)) (ne_eqb e c.args.carrier w.if-e-carrier.true)) in
           ap (λ b. take 512 (gates_in b ++ rest)) w.out-is
           ∙ cut_step 512 s (gates_in w.push.new.self) g rest w.push.ensures.appends_up_to_512

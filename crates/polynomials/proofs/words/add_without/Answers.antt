@@ -5,8 +5,8 @@ use Rattle.polynomials.specs.Polynomials.{coefficients}
 use Rattle.polynomials.proofs.Masks.{masked_step}
 use Rattle.polynomials.proofs.words.add_without.Goals as goal
 
-pub overflow-shl-result-2 : goal.overflow-shl-result-2
-overflow-shl-result-2 c =
+pub overflow_shl-result-2 : goal.overflow_shl-result-2
+overflow_shl-result-2 c =
     let h : c.args.variable < 32 = omega arith in
     omega (arith, one_shl c.args.variable 32 h, pow_below c.args.variable 6 c.requires.is_a_variable)
 

@@ -7,7 +7,7 @@ use Rattle.polynomials.proofs.words.subset_sums.Goals as goal
 
 pub loop-variable-preserved : goal.loop-variable-preserved
 loop-variable-preserved c =
-    c.add-without-sums.ensures.adds_the_set_without
+    c.add_without-sums.ensures.adds_the_set_without
     ∙ ap (add_without 6 c.loop-variable.variable) c.loop-variable.invariant
     ∙ ap (λ (n : ℕ). add_subsets 6 n (coefficients 6 c.args.a)) (sym (add-one c.loop-variable.variable))
 

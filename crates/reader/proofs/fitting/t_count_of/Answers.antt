@@ -7,30 +7,30 @@ use Rattle.reader.proofs.Blocks.{fits_none, all_bad, one_more, part_block}
 use Rattle.reader.proofs.fitting.t_count_of.Goals as goal
 
 -- the gate of a block that passed
-passed : (c : goal.After-t-cost-t-count) → Some c.in-ok-g.g ≡ fitted c.args.width (parsed (block c.args.body.now c.loop-k.k))
+passed : (c : goal.After-t_cost-t-count) → Some c.in_ok-g.g ≡ fitted c.args.width (parsed (block c.args.body.now c.loop-k.k))
 passed c =
-    c.in-ok-g.ensures.is_the_gate_if_it_fits
+    c.in_ok-g.ensures.is_the_gate_if_it_fits
     ∙ ap (λ b. fitted c.args.width (parsed b)) (part_block c.loop-k.k c.args.body.now)
 
-pub returns-in-err-g : goal.returns-in-err-g
-returns-in-err-g c =
+pub returns-in_err-g : goal.returns-in_err-g
+returns-in_err-g c =
     let bs = c.args.body.now in
     let k = c.loop-k.k in
     let w = c.args.width in
     record {
-      fit_and_cost = rw c.from-residual.ensures
+      fit_and_cost = rw c.from_residual.ensures
           (all_bad w c.args.count k bs c.loop-k-test.true
-          (fits_none w (parsed (block bs k)) (c.in-err-g.ensures.is_the_gate_if_it_fits ∙ ap (λ b. fitted w (parsed b)) (part_block k bs))));
+          (fits_none w (parsed (block bs k)) (c.in_err-g.ensures.is_the_gate_if_it_fits ∙ ap (λ b. fitted w (parsed b)) (part_block k bs))));
     }
 
-pub overflow-add-t-count : goal.overflow-add-t-count
-overflow-add-t-count c =
+pub overflow_add-t-count : goal.overflow_add-t-count
+overflow_add-t-count c =
     let gs = gates_of c.loop-k.k c.args.body.now in
     record {
-      fits = omega (arith, c.t-cost-t-count.ensures.is_t_cost, tcost_most c.in-ok-g.g, c.loop-k.invariant.cost, tcosts_most gs, length_gates c.loop-k.k c.args.body.now, c.loop-k-test.true, c.ranges.count.fits);
+      fits = omega (arith, c.t_cost-t-count.ensures.is_t_cost, tcost_most c.in_ok-g.g, c.loop-k.invariant.cost, tcosts_most gs, length_gates c.loop-k.k c.args.body.now, c.loop-k-test.true, c.ranges.count.fits);
     }
 
 pub loop-k-preserved : goal.loop-k-preserved
 loop-k-preserved c =
-    subst (λ n. FitTo c.args.width c.args.body.now (c.loop-k.k + 1) (c.loop-k.t_count + n)) (sym c.t-cost-t-count.ensures.is_t_cost)
-    (one_more c.args.width c.loop-k.k c.loop-k.t_count c.args.body.now c.in-ok-g.g c.loop-k.invariant (passed c))
+    subst (λ n. FitTo c.args.width c.args.body.now (c.loop-k.k + 1) (c.loop-k.t_count + n)) (sym c.t_cost-t-count.ensures.is_t_cost)
+    (one_more c.args.width c.loop-k.k c.loop-k.t_count c.args.body.now c.in_ok-g.g c.loop-k.invariant (passed c))

@@ -22,9 +22,9 @@ returns g c = record {
   hands_back_closed = λ h.
       let k = g.S.Sink in
       let opened = c.open-session.result.0.sink in
-      let made = c.make-all-made.new.self.sink in
+      let made = c.make_all-made.new.self.sink in
       let e : opened ≡ c.args.sink = c.open-session.ensures.opens_empty.on_sink in
-      let kept = c.make-all-made.ensures.keeps_network_and_soundness.sink (subst k.sound (sym e) h) in
+      let kept = c.make_all-made.ensures.keeps_network_and_soundness.sink (subst k.sound (sym e) h) in
       subst (λ s. ClosedSound k.meaning k.sound s c.end-sink.result.sink) e
       (handed k.laws opened made c.end-sink.result.sink c.end-sink.result.answer kept (c.end-sink.ensures.hands_back_closed kept.still));
 }

@@ -10,7 +10,7 @@ returns-then-self-lt1024 c =
         stands = past_more L.log L.standing c.args.made (omega (arith, L.logged));
         holds = c.hold.ensures.is_held_after;
         turns = c.turn.ensures.is_odd_after;
-        charges = λ fits. omega (arith, c.saturating-add-self.ensures);
+        charges = λ fits. omega (arith, c.saturating_add-self.ensures);
       };
       full_log_is_unchanged = λ e. absurd (omega arith);
     }

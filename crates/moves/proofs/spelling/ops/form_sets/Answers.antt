@@ -20,11 +20,11 @@ returns-then-carriers c =
     let b = fan at (second_carrier d) d.second.set in
     let s = gates_in c.new-out.result in
     let t = gates_in c.fan_in.new.out in
-    let u = gates_in c.fan-in-then-carriers.new.out in
+    let u = gates_in c.fan_in-then-carriers.new.out in
     record {
       forms_sets = cut_pair 512 s t u a b c.new-out.ensures.is_empty
           (renamed at s t c.args.carriers.first (first_carrier d) c.elements.result.now d.first.set c.requires.first c.elements.ensures.are_the_elements c.fan_in.ensures.appends_fan)
-          (renamed at t u c.args.carriers.second (second_carrier d) c.elements-then-carriers.result.now d.second.set c.requires.second c.elements-then-carriers.ensures.are_the_elements c.fan-in-then-carriers.ensures.appends_fan)
+          (renamed at t u c.args.carriers.second (second_carrier d) c.elements-then-carriers.result.now d.second.set c.requires.second c.elements-then-carriers.ensures.are_the_elements c.fan_in-then-carriers.ensures.appends_fan)
           ∙ ap (λ v. take 512 (cond v (a ++ b) (b ++ a))) (sym (sym c.requires.leads ∙ c.if-carriers.true));
     }
 
@@ -35,11 +35,11 @@ returns c =
     let a = fan at (first_carrier d) d.first.set in
     let b = fan at (second_carrier d) d.second.set in
     let s = gates_in c.new-out.result in
-    let t = gates_in c.fan-in-2.new.out in
-    let u = gates_in c.fan-in-3.new.out in
+    let t = gates_in c.fan_in-2.new.out in
+    let u = gates_in c.fan_in-3.new.out in
     record {
       forms_sets = cut_pair 512 s t u b a c.new-out.ensures.is_empty
-          (renamed at s t c.args.carriers.second (second_carrier d) c.elements-2.result.now d.second.set c.requires.second c.elements-2.ensures.are_the_elements c.fan-in-2.ensures.appends_fan)
-          (renamed at t u c.args.carriers.first (first_carrier d) c.elements-3.result.now d.first.set c.requires.first c.elements-3.ensures.are_the_elements c.fan-in-3.ensures.appends_fan)
+          (renamed at s t c.args.carriers.second (second_carrier d) c.elements-2.result.now d.second.set c.requires.second c.elements-2.ensures.are_the_elements c.fan_in-2.ensures.appends_fan)
+          (renamed at t u c.args.carriers.first (first_carrier d) c.elements-3.result.now d.first.set c.requires.first c.elements-3.ensures.are_the_elements c.fan_in-3.ensures.appends_fan)
           ∙ ap (λ v. take 512 (cond v (a ++ b) (b ++ a))) (sym (sym c.requires.leads ∙ c.if-carriers.false));
     }

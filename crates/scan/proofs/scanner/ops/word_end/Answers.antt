@@ -6,4 +6,4 @@ pub loop-i-init : goal.loop-i-init
 loop-i-init c = (omega arith, omega arith, starts c.args.s.now c.args.start)
 
 pub loop-i-preserved : goal.loop-i-preserved
-loop-i-preserved c = (omega arith, omega arith, joins c.args.s.now c.loop-i.i c.loop-i-test.true c.args.start (omega arith) (sym c.if-not-is-separator.ensures.tells_separators) ∙ c.loop-i.invariant.2)
+loop-i-preserved c = (omega arith, omega arith, joins c.args.s.now c.loop-i.i c.loop-i-test.true c.args.start (omega arith) (sym c.if-not-is_separator.ensures.tells_separators) ∙ c.loop-i.invariant.2)
