@@ -9,7 +9,7 @@ use values::Algebra;
 
 // Value i, or zero where there is none.
 fn value_at<V: Algebra>(values: &[V], i: usize) -> V
-    ensures is_value_i_or_zero { meaning result ≡ slice_index_or (map meaning values.now) i ring.zero }
+    ensures is_value_i_or_zero { V.meaning result ≡ slice_index_or (map V.meaning values.now) i V.ring.zero }
 {
     match values.get(i) {
         Some(v) => *v,
@@ -19,7 +19,7 @@ fn value_at<V: Algebra>(values: &[V], i: usize) -> V
 
 // The value of a wire, after wires with these values.
 fn value_of_step<V: Algebra>(step: Step, inputs: &[V], values: &[V]) -> V
-    ensures is_value_of_step { meaning result ≡ step_value ring (given ring (map meaning inputs.now)) (map meaning values.now) step }
+    ensures is_value_of_step { V.meaning result ≡ step_value V.ring (given V.ring (map V.meaning inputs.now)) (map V.meaning values.now) step }
 {
     match step {
         Step::Input => value_at(inputs, values.len()),
@@ -35,7 +35,7 @@ fn values_of_wires<V: Algebra>(
     heap: Global,
     inputs: &[V],
 ) -> Result<Vec<V>, AllocError>
-    ensures are_the_wire_values { IfOk result (λ v. map meaning v.items ≡ wire_values ring (given ring (map meaning inputs.now)) (sealed network.now)) }
+    ensures are_the_wire_values { IfOk result (λ v. map V.meaning v.items ≡ wire_values V.ring (given V.ring (map V.meaning inputs.now)) (sealed network.now)) }
 {
     let mut values = Vec::new(heap);
     for wire in network.wires() {
@@ -46,7 +46,7 @@ fn values_of_wires<V: Algebra>(
 
 // The values at these places, in order.
 fn values_at<V: Algebra>(heap: Global, values: &[V], places: &[u16]) -> Result<Vec<V>, AllocError>
-    ensures are_the_values_there { IfOk result (λ v. map meaning v.items ≡ map (λ w. get_or (map meaning values.now) w ring.zero) places.now) }
+    ensures are_the_values_there { IfOk result (λ v. map V.meaning v.items ≡ map (λ w. get_or (map V.meaning values.now) w V.ring.zero) places.now) }
 {
     let mut found = Vec::new(heap);
     for place in places {
@@ -61,8 +61,8 @@ pub fn evaluate<V: Algebra>(
     heap: Global,
     inputs: &[V],
 ) -> Result<Vec<V>, AllocError>
-    ensures are_the_output_values { IfOk result (λ v. map meaning v.items ≡ output_values ring (given ring (map meaning inputs.now)) (sealed network.now)) }
-    ensures network_has_the_value_of_its_chain { (x : ℕ → Meaning) → HasValueOfChain ring x (sealed network.now) }
+    ensures are_the_output_values { IfOk result (λ v. map V.meaning v.items ≡ output_values V.ring (given V.ring (map V.meaning inputs.now)) (sealed network.now)) }
+    ensures network_has_the_value_of_its_chain { (x : ℕ → V.Meaning) → HasValueOfChain V.ring x (sealed network.now) }
 {
     let values = values_of_wires(network, heap, inputs)?;
     values_at(heap, values.as_slice(), network.output_wires())

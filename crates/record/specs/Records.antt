@@ -1,6 +1,6 @@
 -- What a record holds and means, and how an accepted offer and a close change it.
 use Rattle.std.specs.Prelude.{◌≡◌, ℕ, ◌+◌, ◌-◌, ◌*◌, ◌/◌, ◌≤◌, true, false, cond, List, [], ◌∷◌, ◌++◌, length, Some}
-use Rattle.std.specs.Borrow.{Bor}
+use Rattle.std.specs.Borrow.{MutBor}
 use Rattle.circuit.specs.declared.Gate.{Gate}
 use Rattle.circuit.specs.Gates.{run, tcost, tcosts}
 use Rattle.sinks.specs.Meaning.{Meaning, Fresh}
@@ -34,7 +34,7 @@ pub record Sound (s : Record) : Type 0 where
   pub fit : all_fit s.width s.count (bytes s) ≡ true
 
 -- s is a record with no gate over the buffer b
-pub record Empty (b : Bor (List ℕ)) (w : ℕ) (s : Record) : Type 0 where
+pub record Empty (b : MutBor (List ℕ)) (w : ℕ) (s : Record) : Type 0 where
   pub buffer : s.buffer ≡ b
   pub width : s.width ≡ w
   pub places : s.places ≡ places_at (checked w (length b.now)) (length b.now)
@@ -43,7 +43,7 @@ pub record Empty (b : Bor (List ℕ)) (w : ℕ) (s : Record) : Type 0 where
   pub closed : s.closed ≡ false
 
 -- the same, where the width and the buffer's size are such that there can be one
-pub record Made (b : Bor (List ℕ)) (w : ℕ) (s : Record) : Type 0 where
+pub record Made (b : MutBor (List ℕ)) (w : ℕ) (s : Record) : Type 0 where
   pub empty : Empty b w s
   pub sound : Sound s
   pub fresh : Fresh (recorded s)
