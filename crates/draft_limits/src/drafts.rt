@@ -44,9 +44,16 @@ fn number<T: Drop>(answer: Result<T, DraftRefusal>) -> u8 {
     }
 }
 
-fn repeat(rt: &impl Abort, draft: &mut Draft, times: u16, call: DraftCall, expected: u8) {
+fn repeat(
+    rt: &impl Abort,
+    shown: &str,
+    draft: &mut Draft,
+    times: u16,
+    call: DraftCall,
+    expected: u8,
+) {
     for _ in 0..times {
-        assert_eq!(rt; number(make(draft, call)), expected);
+        assert_eq!(rt; number(make(draft, call)), expected, "{shown}");
     }
 }
 
@@ -54,6 +61,7 @@ fn repeat(rt: &impl Abort, draft: &mut Draft, times: u16, call: DraftCall, expec
 // wires, nodes and outputs.
 fn expect(
     rt: &impl Abort,
+    shown: &str,
     heap: Global,
     n: u16,
     calls: &[(u16, DraftCall, u8)],
@@ -61,9 +69,13 @@ fn expect(
 ) -> Result<(), Fail> {
     let mut draft = Draft::new(heap, n)?;
     for (times, call, expected) in calls {
-        repeat(rt, &mut draft, *times, *call, *expected);
+        repeat(rt, shown, &mut draft, *times, *call, *expected);
     }
-    assert_eq!(rt; [draft.wires(), draft.nodes(), draft.outputs()], sizes);
+    assert_eq!(rt;
+        [draft.wires(), draft.nodes(), draft.outputs()],
+        sizes,
+        "{shown}"
+    );
     Ok(())
 }
 
@@ -146,7 +158,7 @@ const CASES: [(&str, u16, &[(u16, DraftCall, u8)], [u16; 3]); 6] = [
 #[test]
 fn calls_answer_their_first_no(rt: HostRuntime) -> Result<(), Fail> {
     for (shown, inputs, calls, sizes) in &CASES {
-        expect(&rt, rt.alloc(), *inputs, calls, *sizes).note(shown)?;
+        expect(&rt, shown, rt.alloc(), *inputs, calls, *sizes)?;
     }
     Ok(())
 }
@@ -178,6 +190,7 @@ fn sealing_wants_an_output(rt: HostRuntime) -> Result<(), Fail> {
 // The form of output 0 has these elements and this constant, and there are so many nodes.
 fn expect_form(
     rt: &impl Abort,
+    shown: &str,
     heap: Global,
     calls: &[DraftCall],
     nodes: u16,
@@ -190,7 +203,8 @@ fn expect_form(
     };
     assert_eq!(rt;
         (network.nodes(), form.elements(), form.constant()),
-        (nodes, elements, constant)
+        (nodes, elements, constant),
+        "{shown}"
     );
     Ok(())
 }
@@ -262,7 +276,7 @@ const FORMS: [(&str, &[DraftCall], u16, &[u16], bool); 5] = [
 #[test]
 fn and_takes_the_first_rule_that_fits(rt: HostRuntime) -> Result<(), Fail> {
     for (shown, calls, nodes, elements, constant) in &FORMS {
-        expect_form(&rt, rt.alloc(), calls, *nodes, elements, *constant).note(shown)?;
+        expect_form(&rt, shown, rt.alloc(), calls, *nodes, elements, *constant)?;
     }
     Ok(())
 }

@@ -16,6 +16,7 @@ fn number(record: &mut Record<'_>, gate: Gate) -> u8 {
 // that T-count and so many free places.
 fn expect(
     rt: &impl Abort,
+    shown: &str,
     buffer: &mut [u8],
     width: u16,
     offers: &[(Gate, u8)],
@@ -23,9 +24,13 @@ fn expect(
 ) -> Result<(), Fail> {
     let mut record = Record::over(buffer, width);
     for (gate, expected) in offers {
-        assert_eq!(rt; number(&mut record, *gate), *expected);
+        assert_eq!(rt; number(&mut record, *gate), *expected, "{shown}");
     }
-    assert_eq!(rt; (record.count(), record.t_count(), record.free()), counts);
+    assert_eq!(rt;
+        (record.count(), record.t_count(), record.free()),
+        counts,
+        "{shown}"
+    );
     Ok(())
 }
 
@@ -80,7 +85,7 @@ const CASES: [(&str, &[(Gate, u8)], (u16, u64, u64)); 3] = [
 #[test]
 fn offers_answer_their_first_no(rt: HostRuntime) -> Result<(), Fail> {
     for (shown, offers, counts) in &CASES {
-        expect(&rt, &mut [0; 92], 5, offers, *counts).note(shown)?;
+        expect(&rt, shown, &mut [0; 92], 5, offers, *counts)?;
     }
     Ok(())
 }
@@ -90,6 +95,7 @@ fn the_last_place_is_taken_and_no_more(rt: HostRuntime) -> Result<(), Fail> {
     let gate = Gate::Cnot { a: 1, t: 0 };
     expect(
         &rt,
+        "the last place is taken and no more",
         &mut [0; 28],
         2,
         &[(gate, 0), (gate, 0), (gate, 9)],
@@ -106,7 +112,14 @@ fn refused_offers_change_no_byte(rt: HostRuntime) -> Result<(), Fail> {
         (Gate::Cnot { a: 4, t: 4 }, 8),
         (Gate::Cnot { a: 4, t: 3 }, 9),
     ];
-    expect(&rt, &mut buffer, 5, &OFFERS, (1, 4, 0))?;
+    expect(
+        &rt,
+        "refused offers change no byte",
+        &mut buffer,
+        5,
+        &OFFERS,
+        (1, 4, 0),
+    )?;
     assert_eq!(rt;
         buffer,
         [2, 0, 0, 0, 1, 0, 4, 0, 7, 7, 7, 7, 7, 7, 7, 7, 7, 7, 7, 7]

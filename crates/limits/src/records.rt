@@ -17,12 +17,13 @@ fn places(heap: Global, width: u16, size: usize) -> Result<Result<u64, u8>, Allo
 
 fn expect(
     rt: &impl Abort,
+    shown: &str,
     heap: Global,
     width: u16,
     size: usize,
     answer: Result<u64, u8>,
 ) -> Result<(), Fail> {
-    assert_eq!(rt; places(heap, width, size)?, answer);
+    assert_eq!(rt; places(heap, width, size)?, answer, "{shown}");
     Ok(())
 }
 
@@ -46,7 +47,7 @@ const CASES: [(&str, u16, usize, Result<u64, u8>); 13] = [
 #[test]
 fn making_answers_its_first_no(rt: HostRuntime) -> Result<(), Fail> {
     for (shown, width, size, answer) in &CASES {
-        expect(&rt, rt.alloc(), *width, *size, *answer).note(shown)?;
+        expect(&rt, shown, rt.alloc(), *width, *size, *answer)?;
     }
     Ok(())
 }

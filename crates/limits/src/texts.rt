@@ -21,6 +21,7 @@ fn number(heap: Global, text: &[u8]) -> u8 {
 // Each text, put after the same start, answers the number.
 fn expect(
     rt: &impl Abort,
+    shown: &str,
     heap: Global,
     start: &str,
     rests: &[&str],
@@ -31,8 +32,7 @@ fn expect(
         assert_eq!(rt;
             number(heap, text.as_str().as_bytes()),
             expected,
-            "{}",
-            rest
+            "{shown}: {rest}"
         );
     }
     Ok(())
@@ -226,7 +226,7 @@ const CASES: [(&str, &str, &[&str], u8); 20] = [
 #[test]
 fn texts_answer_their_first_no(rt: HostRuntime) -> Result<(), Fail> {
     for (shown, start, rests, number) in &CASES {
-        expect(&rt, rt.alloc(), start, rests, *number).note(shown)?;
+        expect(&rt, shown, rt.alloc(), start, rests, *number)?;
     }
     Ok(())
 }

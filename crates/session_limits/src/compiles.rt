@@ -24,6 +24,7 @@ fn holds(record: &Record<'_>, gates: &[Gate]) -> bool {
 // gates.
 fn expect(
     rt: &impl Abort,
+    shown: &str,
     heap: Global,
     text: &str,
     width: u16,
@@ -38,8 +39,8 @@ fn expect(
         sink,
         answer: ended,
     } = compile(&network, record);
-    assert_eq!(rt; (answered(ended), sink.t_count()), answer);
-    assert!(rt; holds(&sink, gates));
+    assert_eq!(rt; (answered(ended), sink.t_count()), answer, "{shown}");
+    assert!(rt; holds(&sink, gates), "{shown}");
     Ok(())
 }
 
@@ -204,14 +205,14 @@ fn networks_compile_to_their_gates(rt: HostRuntime) -> Result<(), Fail> {
     for (shown, text, width, size, number, t_count, gates) in &CASES {
         expect(
             &rt,
+            shown,
             rt.alloc(),
             text,
             *width,
             *size,
             (*number, *t_count),
             gates,
-        )
-        .note(shown)?;
+        )?;
     }
     Ok(())
 }

@@ -77,6 +77,7 @@ fn outcome(
 // times, answers a number; the end answers a number, and leaves so many gates and that T-count.
 fn expect(
     rt: &impl Abort,
+    shown: &str,
     heap: Global,
     text: &str,
     width: u16,
@@ -88,7 +89,7 @@ fn expect(
     let mut buffer = vec![in heap; 0u8; size]?;
     let (ended, gates, t_count) = end;
     let went = outcome(&network, buffer.as_mut_slice(), width, calls);
-    assert_eq!(rt; went, (None, ended, gates, t_count));
+    assert_eq!(rt; went, (None, ended, gates, t_count), "{shown}");
     Ok(())
 }
 
@@ -308,7 +309,7 @@ const CASES: [(&str, &str, u16, usize, &[(u16, Call, u8)], u8, u16, u64); 14] = 
 fn calls_answer_their_first_no(rt: HostRuntime) -> Result<(), Fail> {
     for (shown, text, width, size, calls, ended, gates, t_count) in &CASES {
         let end = (*ended, *gates, *t_count);
-        expect(&rt, rt.alloc(), text, *width, *size, calls, end).note(shown)?;
+        expect(&rt, shown, rt.alloc(), text, *width, *size, calls, end)?;
     }
     Ok(())
 }
@@ -328,7 +329,16 @@ fn expect_places(
         (1, Call::Copy(0), second),
         (1, Call::Release(0), third),
     ];
-    expect(rt, heap, SAMPLE, 5, size, &calls, end)
+    expect(
+        rt,
+        "a move and all undoing have places",
+        heap,
+        SAMPLE,
+        5,
+        size,
+        &calls,
+        end,
+    )
 }
 
 #[test]
