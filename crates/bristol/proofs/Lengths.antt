@@ -14,7 +14,6 @@ use Rattle.bristol.specs.Gates.{arity_of, operation_of, gate_of_two, gate_of_one
 use Rattle.bristol.specs.Headers.{checked}
 use Rattle.bristol.specs.Reading.{Reading, answer, then_read, worth_or_no, number_first, operation_first, sum_first, width_first, header_first, rest_first, line_first, end_first}
 use Rattle.bristol.specs.Refusals.{is_too_long}
-use Rattle.refusals.specs.Texts.{number}
 use Rattle.bristol.specs.Texts.{gates_first, read_pieces}
 use Rattle.bristol.specs.Wires.{both_given, one_given, given_at, open_at, resolved_gate}
 use Rattle.bristol.specs.declared.gate.Arity.{Arity}

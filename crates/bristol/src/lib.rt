@@ -1,4 +1,6 @@
 // Networks from Bristol Fashion text.
+#![tactic(auto)]
+
 ghost use Rattle.std.specs.Prelude.{◌≡◌, [], length, nat_lt};
 ghost use Rattle.network.specs.Networks.{sealed};
 ghost use Rattle.bristol.specs.Answers.{Answered, Left};

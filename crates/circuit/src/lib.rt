@@ -1,4 +1,6 @@
 // Gates of a reversible circuit over numbered lines.
+#![tactic(auto)]
+
 ghost use Rattle.std.specs.Prelude.{◌≡◌, Some};
 ghost use Rattle.circuit.specs.Gates.{inside, apart, tcost, inverse};
 ghost use Rattle.circuit.specs.Printed.{printed};

@@ -1,5 +1,7 @@
 // Makes 100 drafts of 64 inputs and 960 random gates each, and prints how many nodes they have and a sum over
 // the forms of their outputs. bench/draft_ratio counts its instructions.
+#![tactic(auto)]
+
 ghost use Rattle.std.specs.Prelude.{◌<◌};
 
 use network::{Draft, Network};

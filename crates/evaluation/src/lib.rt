@@ -1,4 +1,6 @@
 // The value of a network at given inputs.
+#![tactic(auto)]
+
 mod chain;
 mod words;
 

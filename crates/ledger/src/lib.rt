@@ -1,4 +1,6 @@
 // The ledger of a session: the moves that stand, and what is held after them.
+#![tactic(auto)]
+
 mod ledger;
 mod moves;
 

@@ -1,3 +1,5 @@
+#![tactic(auto)]
+
 // Tests of every number that offers, records and texts are refused with, on both sides of its range.
 #[cfg(test)]
 mod offers;

@@ -305,7 +305,7 @@ fn outputs_may_be_inputs(rt: HostRuntime) -> Result<(), Fail> {
             network.nodes(),
             form.elements(),
         ),
-        (3, 2, 0, &[1])
+        (3, 2, 0, [1].as_slice())
     );
     Ok(())
 }

@@ -1,7 +1,6 @@
 -- A list that is cut at n after each append is the whole cut at n.
-use Rattle.std.proofs.Common.{◌≡◌, ℕ, zero, suc, ◌≤◌, List, [], ◌∷◌, ◌++◌, length, take, sym, refl, ap, ◌∙◌, arith}
+use Rattle.std.proofs.Common.{◌≡◌, ℕ, zero, suc, ◌≤◌, List, [], ◌∷◌, ◌++◌, length, take, refl, ap, ◌∙◌, arith}
 use Rattle.std.proofs.lemmas.List.{append_assoc, append-nil, take_all, length-take-le}
-use Rattle.circuit.specs.declared.Gate.{Gate}
 use Rattle.moves.specs.Buffers.{gates_in}
 use Rattle.moves.specs.declared.buffer.GateBuffer.{GateBuffer}
 

@@ -1,4 +1,6 @@
 // The gates that each move of a session spells.
+#![tactic(auto)]
+
 mod buffer;
 mod fans;
 mod spelling;

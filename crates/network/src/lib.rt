@@ -1,4 +1,6 @@
 // Networks of XOR, AND and INV gates: drafts that grow, and sealed networks.
+#![tactic(auto)]
+
 mod draft;
 mod lists;
 mod network;

@@ -1,3 +1,5 @@
+#![tactic(auto)]
+
 // Tests of what networks evaluate to, over bits, words and polynomials.
 #[cfg(test)]
 mod forms_agree;

@@ -1,4 +1,6 @@
 // Reads a Bristol Fashion text from standard input, compiles its network and prints the oracle circuit.
+#![tactic(auto)]
+
 use bristol::read_network;
 use network::Network;
 use record::Record;

@@ -1,4 +1,6 @@
 // Polynomials over the field of two elements in six variables.
+#![tactic(auto)]
+
 mod polynomial;
 mod words;
 

@@ -1,4 +1,6 @@
 // A million products of polynomials. Each, with its second factor added so that it does not become zero, is a factor of the next.
+#![tactic(auto)]
+
 use polynomials::Polynomial;
 use std::io::Error;
 use values::Algebra;

@@ -1,4 +1,6 @@
 // Why calls are refused, and the number of each refusal.
+#![tactic(auto)]
+
 mod draft;
 mod lookup;
 mod making;

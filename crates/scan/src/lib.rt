@@ -1,4 +1,6 @@
 // The tokens of a text, parted by space, tab, CR and LF.
+#![tactic(auto)]
+
 mod scanner;
 mod token;
 

@@ -1,7 +1,6 @@
 -- The questions of a session's calls, each call's in its order: the first no is the answer.
 use Rattle.std.specs.Prelude.{ℕ, ◌+◌, ◌*◌, Bool, cond, not, ◌&&◌, List, [], ◌∷◌, length, take, is_some, None, Ok, Err, Option, Result, nat_le, nat_lt, slice_index_or}
 use Rattle.circuit.specs.declared.Gate.{Gate}
-use Rattle.form.specs.Shapes.{Shape}
 use Rattle.network.specs.Wires.{Net, NodeShape, node_at, output_form, node_count, output_count}
 use Rattle.ledger.specs.declared.ledger.Ledger.{Ledger}
 use Rattle.ledger.specs.declared.moves.Move.{Move}

@@ -1,5 +1,5 @@
 -- The questions of each call, put to a session; and what a session is after a move.
-use Rattle.std.specs.Prelude.{◌≡◌, ℕ, ◌≤◌, true, false, List, [], length, replicate, None, slice_index_or}
+use Rattle.std.specs.Prelude.{◌≡◌, ℕ, true, false, List, [], length, replicate, None, slice_index_or}
 use Rattle.std.specs.Borrow.{Bor}
 use Rattle.circuit.specs.declared.Gate.{Gate}
 use Rattle.network.specs.Wires.{Net}

@@ -1,4 +1,6 @@
 // Sessions: a network compiled move by move into a sink.
+#![tactic(auto)]
+
 mod compiling;
 mod sending;
 mod session;

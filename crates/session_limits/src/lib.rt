@@ -1,3 +1,5 @@
+#![tactic(auto)]
+
 // Tests of every number that sessions and compiling refuse with, on both sides of its range.
 #[cfg(test)]
 mod compiles;

@@ -1,4 +1,6 @@
 // What takes gates: the trait of sinks, and the questions that every offer is asked.
+#![tactic(auto)]
+
 ghost use Rattle.std.specs.Prelude.{◌≡◌, MatchResult};
 ghost use Rattle.circuit.specs.declared.Gate.{Gate};
 ghost use Rattle.sinks.specs.Questions.{judged};

@@ -1,4 +1,6 @@
 // Value algebras: what circuits and networks can be evaluated over.
+#![tactic(auto)]
+
 mod algebra;
 mod bit;
 

@@ -1,4 +1,4 @@
-use Rattle.std.proofs.Common.{◌≡◌, ◌++◌, take, sym, ap, ◌∙◌}
+use Rattle.std.proofs.Common.{◌++◌, take, sym, ap, ◌∙◌}
 use Rattle.moves.specs.Buffers.{gates_in}
 use Rattle.moves.specs.Fans.{not_if}
 use Rattle.moves.proofs.Cuts.{cut_none, short}

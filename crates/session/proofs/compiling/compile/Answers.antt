@@ -1,4 +1,4 @@
-use Rattle.std.proofs.Common.{◌≡◌, Result, sym, ap, ◌∙◌, subst}
+use Rattle.std.proofs.Common.{◌≡◌, Result, sym, ◌∙◌, subst}
 use Rattle.circuit.specs.declared.Gate.{Gate}
 use Rattle.sinks.specs.Meaning.{Meaning}
 use Rattle.sinks.specs.Laws.{Laws}

@@ -1,5 +1,4 @@
-use Rattle.std.proofs.Common.{◌≡◌, List, ◌∷◌, ◌++◌, Some, sym, ap, ◌∙◌, subst}
-use Rattle.circuit.specs.declared.Gate.{Gate}
+use Rattle.std.proofs.Common.{◌≡◌, ◌∷◌, ◌++◌, Some, sym, ap, ◌∙◌, subst}
 use Rattle.moves.specs.Buffers.{gates_in}
 use Rattle.moves.specs.Fans.{undone, joined}
 use Rattle.moves.specs.Spelled.{spelled}

@@ -1,4 +1,4 @@
-use Rattle.std.proofs.Common.{◌≡◌, ◌-◌, ◌<◌, length, get_or, Ok, ◌∙◌, subst, arith}
+use Rattle.std.proofs.Common.{◌≡◌, ◌<◌, length, Ok, ◌∙◌, subst, arith}
 use Rattle.circuit.specs.declared.Gate.TheVariants.{Not}
 use Rattle.sinks.specs.Meaning.{answer}
 use Rattle.moves.specs.Fans.{undone}

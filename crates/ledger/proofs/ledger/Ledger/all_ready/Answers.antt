@@ -1,4 +1,4 @@
-use Rattle.std.proofs.Common.{◌≡◌, ◌+◌, false, ◌&&◌, drop, sym, ap, ◌∙◌}
+use Rattle.std.proofs.Common.{◌+◌, false, ◌&&◌, drop, sym, ap, ◌∙◌}
 use Rattle.ledger.specs.Ledgers.{all_ready}
 use Rattle.ledger.proofs.Scans.{at_element, past_last}
 use Rattle.ledger.proofs.ledger.Ledger.all_ready.Goals as goal

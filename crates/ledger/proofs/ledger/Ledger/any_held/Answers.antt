@@ -1,4 +1,4 @@
-use Rattle.std.proofs.Common.{◌≡◌, ◌+◌, true, ◌||◌, drop, None, sym, ap, ◌∙◌, arith}
+use Rattle.std.proofs.Common.{◌+◌, true, ◌||◌, drop, None, sym, ap, ◌∙◌, arith}
 use Rattle.ledger.specs.Ledgers.{any_held}
 use Rattle.ledger.proofs.Scans.{at_element, past_last}
 use Rattle.ledger.proofs.ledger.Ledger.any_held.Goals as goal

@@ -1,4 +1,4 @@
-use Rattle.std.proofs.Common.{◌≡◌, ◌+◌, false, not, ◌&&◌, drop, None, sym, ap, ◌∙◌, arith}
+use Rattle.std.proofs.Common.{◌+◌, false, not, ◌&&◌, drop, None, sym, ap, ◌∙◌, arith}
 use Rattle.ledger.specs.Ledgers.{free_line}
 use Rattle.ledger.proofs.Scans.{at_element, past_last}
 use Rattle.ledger.proofs.ledger.Ledger.is_free.Goals as goal

@@ -1,4 +1,4 @@
-use Rattle.std.proofs.Common.{◌≡◌, ◌+◌, min, arith}
+use Rattle.std.proofs.Common.{arith}
 use Rattle.ledger.proofs.Pasts.{past_more}
 use Rattle.ledger.proofs.ledger.Ledger.note.Goals as goal
 

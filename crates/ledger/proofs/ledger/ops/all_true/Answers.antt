@@ -1,4 +1,4 @@
-use Rattle.std.proofs.Common.{◌≡◌, ◌+◌, false, ◌&&◌, drop, ap}
+use Rattle.std.proofs.Common.{◌+◌, false, ◌&&◌, drop, ap}
 use Rattle.ledger.specs.Ledgers.{all_true}
 use Rattle.ledger.proofs.Scans.{at_element, past_last}
 use Rattle.ledger.proofs.ledger.ops.all_true.Goals as goal

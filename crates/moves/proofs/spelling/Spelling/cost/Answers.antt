@@ -1,4 +1,4 @@
-use Rattle.std.proofs.Common.{◌≡◌, ◌+◌, ◌*◌, length, sym, ap, ◌∙◌, arith}
+use Rattle.std.proofs.Common.{◌+◌, ◌*◌, length, sym, ap, ◌∙◌, arith}
 use Rattle.moves.specs.Buffers.{gates_in}
 use Rattle.moves.specs.Fans.{joined}
 use Rattle.moves.proofs.Cuts.{short}

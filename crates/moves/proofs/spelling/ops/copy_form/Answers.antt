@@ -1,4 +1,4 @@
-use Rattle.std.proofs.Common.{◌≡◌, ◌++◌, take, ap, ◌∙◌}
+use Rattle.std.proofs.Common.{◌++◌, take, ap, ◌∙◌}
 use Rattle.form.specs.Shapes.{shape}
 use Rattle.moves.specs.Buffers.{gates_in}
 use Rattle.moves.specs.Fans.{adds, not_if}

@@ -1,10 +1,10 @@
-use Rattle.std.proofs.Common.{◌≡◌, ℕ, Bool, true, false, cond, List, [], ◌++◌, take, sym, ap, ◌∙◌}
+use Rattle.std.proofs.Common.{◌≡◌, ℕ, cond, List, ◌++◌, take, sym, ap, ◌∙◌}
 use Rattle.circuit.specs.declared.Gate.{Gate}
-use Rattle.network.specs.Wires.{NodeShape, node_shape}
+use Rattle.network.specs.Wires.{node_shape}
 use Rattle.moves.specs.Buffers.{gates_in}
 use Rattle.moves.specs.Fans.{fan}
 use Rattle.ledger.specs.Ledgers.{line_of}
-use Rattle.moves.specs.Spelling.{first_carrier, second_carrier, sets_formed, first_leads}
+use Rattle.moves.specs.Spelling.{first_carrier, second_carrier}
 use Rattle.moves.proofs.Cuts.{cut_pair}
 use Rattle.moves.proofs.spelling.ops.form_sets.Goals as goal
 

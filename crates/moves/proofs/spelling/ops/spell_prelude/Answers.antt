@@ -1,4 +1,4 @@
-use Rattle.std.proofs.Common.{◌≡◌, ℕ, Bool, List, [], ◌++◌, take, sym, ap, ◌∙◌}
+use Rattle.std.proofs.Common.{◌≡◌, ℕ, Bool, List, [], ◌++◌, take, ap, ◌∙◌}
 use Rattle.circuit.specs.declared.Gate.{Gate}
 use Rattle.network.specs.Wires.{node_shape}
 use Rattle.moves.specs.Buffers.{gates_in}
