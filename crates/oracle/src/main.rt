@@ -9,6 +9,7 @@ use sinks::Sink;
 use std::alloc::{AllocError, Global};
 use std::io;
 use std::io::Read;
+use std::process::ExitCode;
 
 // The most bytes that a text may have.
 const TEXT_BYTES: u64 = 65_536;
@@ -80,12 +81,15 @@ fn run(rt: &HostRuntime) -> io::Result<Answer> {
     Ok(answer_to(rt.alloc(), text.as_slice())?)
 }
 
-fn main(rt: HostRuntime) -> io::Result<()> {
+fn main(rt: HostRuntime) -> io::Result<ExitCode> {
     match run(&rt)? {
-        Answer::Circuit(listing) => rt.print(listing),
+        Answer::Circuit(listing) => {
+            rt.print(listing)?;
+            Ok(ExitCode::SUCCESS)
+        }
         Answer::Refused(number) => {
             println!(rt; "refused {number}")?;
-            Err(io::Error::other("refused"))
+            Ok(ExitCode::FAILURE)
         }
     }
 }
