@@ -12,8 +12,8 @@ length_undone gs = length-reverse (map inverse gs) ∙ length-map gs inverse
 pub length_around : (gs : List Gate) (g : Gate) → length (gs ++ (g ∷ undone gs)) ≡ 2 * length gs + 1
 length_around gs g = omega (arith, length-append gs (g ∷ undone gs), length_undone gs)
 
-pub get_d_undone : (gs : List Gate) (k : ℕ) (d : Gate) → k < length gs → inverse (get_or gs (length gs - 1 - k) d) ≡ get_or (undone gs) k (inverse d)
-get_d_undone gs k d h =
+pub get_or_undone : (gs : List Gate) (k : ℕ) (d : Gate) → k < length gs → inverse (get_or gs (length gs - 1 - k) d) ≡ get_or (undone gs) k (inverse d)
+get_or_undone gs k d h =
     let n : length (map inverse gs) ≡ length gs = length-map gs inverse in
     let l : k < length (map inverse gs) = omega arith in
     let i : length gs - 1 - k < length gs = omega arith in

@@ -1,7 +1,6 @@
 // Lists of gates offered to a sink, forwards and backwards.
-ghost use Rattle.std.specs.Prelude.{◌≡◌, ◌+◌, ◌*◌, ◌≤◌, true, [], ◌∷◌, length, Some, Ok};
+ghost use Rattle.std.specs.Prelude.{◌≡◌, Some, Ok};
 ghost use Rattle.sinks.specs.Meaning.{answer};
-ghost use Rattle.sinks.specs.Chain.{Chain};
 ghost use Rattle.moves.specs.Fans.{undone, joined};
 ghost use Rattle.moves.specs.Spelled.{spelled};
 ghost use Rattle.session.specs.Sending.{Kept, Taken};

@@ -1,4 +1,4 @@
-ghost use Rattle.std.specs.Prelude.{◌≡◌, ℕ, ◌+◌, ◌<◌, ◌≤◌, false, [], ◌∷◌, take, set, replicate, is_some, None, slice_index_or, slice_set};
+ghost use Rattle.std.specs.Prelude.{◌≡◌, ◌<◌, false, [], take, replicate, is_some, None, slice_index_or, slice_set};
 ghost use Rattle.ledger.specs.Ledgers.{past, held_after, held_before, odd_after, Noted, TakenBack, Undone, line_of, on_line, ready, all_ready, free_line, any_held, all_true};
 
 use super::Ledger;

@@ -1,6 +1,5 @@
 // Opening, and the calls that make moves.
-ghost use Rattle.std.specs.Prelude.{◌≡◌, [], OnErr, OnOk};
-ghost use Rattle.ledger.specs.Ledgers.{past};
+ghost use Rattle.std.specs.Prelude.{◌≡◌, OnErr, OnOk};
 ghost use Rattle.ledger.specs.declared.moves.Move.TheVariants.{Compute, Copy};
 ghost use Rattle.session.specs.Questions.{first_no};
 ghost use Rattle.session.specs.State.{Opened, Steady, Moved, release_move, compute_asked, release_asked, copy_asked};
