@@ -1,12 +1,13 @@
 -- The parts of a text, read off the pieces that are ahead.
-use Rattle.std.specs.Prelude.{ℕ, zero, suc, ◌+◌, List, [], ◌∷◌, Some, None, Ok, Err, Option, Result}
+use Rattle.std.specs.Prelude.{ℕ, zero, suc, ◌+◌, cond, ◌&&◌, ◌==◌, List, [], ◌∷◌, Some, None, Ok, Err, Option, Result}
 use Rattle.scan.specs.Cuts.{Piece}
 use Rattle.scan.specs.Numbers.{number_of}
 use Rattle.scan.specs.Tokens.{left}
-use Rattle.bristol.specs.Gates.{arity_of, operation_of, gate_of_two, gate_of_one}
+use Rattle.bristol.specs.Gates.{operation_of, gate_over}
+use Rattle.bristol.specs.Headers.{header_of}
 use Rattle.refusals.specs.Texts.{number}
-use Rattle.bristol.specs.declared.gate.Arity.{Arity}
-use Rattle.bristol.specs.declared.gate.Arity.TheVariants.{One, Two}
+use Rattle.bristol.specs.declared.gate.Operands.{Operands}
+use Rattle.bristol.specs.declared.gate.Operands.TheVariants.{One, Two}
 use Rattle.bristol.specs.declared.gate.GateLine.{GateLine}
 use Rattle.bristol.specs.declared.gate.Operation.{Operation}
 use Rattle.bristol.specs.declared.header.Header.{Header}
@@ -54,44 +55,32 @@ sum_first (suc k) sum ps = then_read (number_first ps) (λ n rest. sum_first k (
 abbrev pub width_first : List Piece → Reading ℕ
 width_first ps = then_read (number_first ps) (λ count rest. sum_first count 0 rest)
 
--- gate count, wire count, input values and output values
+-- gate count, wire count, input values and output values, which fit each other and the limits
 abbrev pub header_first : List Piece → Reading Header
 header_first ps =
     then_read (number_first ps)
     (λ gates ps1. then_read (number_first ps1)
     (λ wires ps2. then_read (width_first ps2)
     (λ inputs ps3. then_read (width_first ps3)
-    (λ outputs ps4. Ok (record { gates = gates; wires = wires; inputs = inputs; outputs = outputs }, ps4)))))
+    (λ outputs ps4. answer (header_of gates wires inputs outputs) ps4))))
 
--- two wires read, the wire given, and XOR or AND
-abbrev pub two_first : List Piece → Reading GateLine
-two_first ps =
-    then_read (number_first ps)
-    (λ a ps1. then_read (number_first ps1)
-    (λ b ps2. then_read (number_first ps2)
-    (λ gives ps3. then_read (operation_first ps3)
-    (λ operation ps4. then_read (answer (gate_of_two operation a b) ps4)
-    (λ gate ps5. Ok (record { gate = gate; gives = gives }, ps5))))))
+-- the wires read by a gate that reads and gives so many: 2 1 or 1 1
+abbrev pub operands_first : ℕ → ℕ → List Piece → Reading Operands
+operands_first reads gives ps =
+    cond (reads == 1 && gives == 1) (then_read (number_first ps) (λ a ps1. Ok (One a, ps1)))
+    (cond (reads == 2 && gives == 1) (then_read (number_first ps) (λ a ps1. then_read (number_first ps1) (λ b ps2. Ok (Two a b, ps2))))
+    (Err 33))
 
--- a wire read, the wire given, and INV
-abbrev pub one_first : List Piece → Reading GateLine
-one_first ps =
-    then_read (number_first ps)
-    (λ a ps1. then_read (number_first ps1)
-    (λ gives ps2. then_read (operation_first ps2)
-    (λ operation ps3. then_read (answer (gate_of_one operation a) ps3)
-    (λ gate ps4. Ok (record { gate = gate; gives = gives }, ps4)))))
-
-abbrev pub rest_first : Arity → List Piece → Reading GateLine
-rest_first Two ps = two_first ps
-rest_first One ps = one_first ps
-
--- a gate: how many wires it reads and gives, and the rest
+-- a gate: how many wires it reads and gives, the wires read, the wire given, and the operation
 abbrev pub line_first : List Piece → Reading GateLine
 line_first ps =
     then_read (number_first ps)
     (λ reads ps1. then_read (number_first ps1)
-    (λ gives ps2. then_read (answer (arity_of reads gives) ps2) rest_first))
+    (λ count ps2. then_read (operands_first reads count ps2)
+    (λ operands ps3. then_read (number_first ps3)
+    (λ gives ps4. then_read (operation_first ps4)
+    (λ operation ps5. then_read (answer (gate_over operation operands) ps5)
+    (λ gate ps6. Ok (record { gate = gate; gives = gives }, ps6)))))))
 
 -- no piece at all
 abbrev pub end_first : List Piece → Reading (Unit {0})

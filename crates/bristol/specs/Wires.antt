@@ -1,14 +1,14 @@
 -- The wires of a text, each with the draft's wire that it became once it is given.
-use Rattle.std.specs.Prelude.{ℕ, zero, suc, Bool, cond, not, ◌&&◌, List, [], ◌∷◌, ◌++◌, length, is_some, Some, None, Ok, Err, Option, Result, nat_lt, slice_index_or}
-use Rattle.bristol.specs.declared.gate.Gate.{Gate}
-use Rattle.bristol.specs.declared.gate.Gate.TheVariants.{Xor, And, Inv}
+use Rattle.std.specs.Prelude.{ℕ, Bool, cond, not, ◌&&◌, List, length, map, is_some, Some, None, Ok, Err, Option, Result, nat_lt, slice_index_or}
+use Rattle.std.specs.List.{range_with_len}
+use Rattle.network.specs.declared.wire.Gate.{Gate}
+use Rattle.network.specs.declared.wire.Gate.TheVariants.{Xor, And, Inv}
 use Rattle.refusals.specs.declared.text.TextRefusal.{TextRefusal}
 use Rattle.refusals.specs.declared.text.TextRefusal.TheVariants.{Wiring}
 
 -- k wires, of which the first n are given
 abbrev pub inputs_given : ℕ → ℕ → List (Option ℕ)
-inputs_given n zero = []
-inputs_given n (suc k) = inputs_given n k ++ (cond (nat_lt k n) (Some k) None ∷ [])
+inputs_given n k = map (λ w. cond (nat_lt w n) (Some w) None) (range_with_len 0 k)
 
 -- the draft's wire, if the text's wire w is given
 abbrev pub given_at : List (Option ℕ) → ℕ → Option ℕ

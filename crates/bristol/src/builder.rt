@@ -1,18 +1,18 @@
 ghost use Rattle.std.specs.Prelude.{◌≡◌, IfOk};
 ghost use Rattle.std.specs.Option.{ok_or};
-ghost use Rattle.network.specs.Drafts.{drafted, Added};
+ghost use Rattle.network.specs.Drafts.{drafted};
 ghost use Rattle.network.specs.Networks.{sealed};
 ghost use Rattle.bristol.specs.Answers.{Answered, Left};
-ghost use Rattle.bristol.specs.Building.{building, opened, added, marked, finished, step_of};
+ghost use Rattle.bristol.specs.Building.{building, opened, added, marked, finished};
 ghost use Rattle.bristol.specs.Wires.{given_at, open_at, inputs_given, resolved_gate};
 ghost use Rattle.refusals.specs.declared.text.TextRefusal.TheVariants.{Wiring};
 
-use crate::gate::{Gate, GateLine};
-use network::{Draft, Network};
+use crate::gate::GateLine;
+use network::{Draft, Gate, Network};
 use refusals::{DraftRefusal, TextRefusal};
 use std::alloc::{AllocError, Global};
 
-// A draft under way, and for each wire of the text the draft's wire, once it is given.
+// A draft under way, and for each wire of the text, 0 to the last, the draft's wire, once it is given.
 #[derive(Drop)]
 pub(crate) struct Builder {
     draft: Draft,
@@ -23,22 +23,7 @@ pub(crate) struct Builder {
 fn input_wires(heap: Global, inputs: u16, wires: u16) -> Result<Vec<Option<u16>>, AllocError>
     ensures gives_the_inputs_alone { IfOk result (λ v. v.items ≡ inputs_given inputs wires) }
 {
-    let mut given = Vec::new(heap);
-    for w in 0..wires {
-        given.push(if w < inputs { Some(w) } else { None })?;
-    }
-    Ok(given)
-}
-
-// Adds a gate over the draft's wires.
-fn append(draft: &mut Draft, gate: Gate) -> Result<u16, DraftRefusal>
-    ensures adds_or_answers_first_no { Added (drafted draft.old) (step_of gate) result (drafted draft.new) }
-{
-    match gate {
-        Gate::Xor(a, b) => draft.xor(a, b),
-        Gate::And(a, b) => draft.and(a, b),
-        Gate::Inv(a) => draft.inv(a),
-    }
+    (0..wires).map(|w| (w < inputs).then_some(w)).collect(heap)
 }
 
 // Marks the given wires as outputs, in their order.
@@ -47,9 +32,7 @@ fn mark(draft: &mut Draft, wires: &[Option<u16>]) -> Result<(), TextRefusal>
 {
     for wire in wires {
         // A text's wires are all given when its gates are read, since each gate gave another.
-        let Some(w) = *wire else {
-            return Err(TextRefusal::Wiring);
-        };
+        let w = wire.ok_or(TextRefusal::Wiring)?;
         draft.output(w)?;
     }
     Ok(())
@@ -69,17 +52,11 @@ impl Builder {
     fn wire(&self, w: u16) -> Result<u16, TextRefusal>
         ensures is_the_wire_given { result ≡ ok_or (given_at self.now.wires.items w) Wiring }
     {
-        match self.wires.get(w as usize) {
-            Some(given) => given.ok_or(TextRefusal::Wiring),
-            None => Err(TextRefusal::Wiring),
-        }
-    }
-
-    // Whether a wire of the text is there to be given.
-    fn is_open(&self, w: u16) -> bool
-        ensures is_below_the_count_and_not_given { result ≡ open_at self.now.wires.items w }
-    {
-        matches!(self.wires.get(w as usize), Some(None))
+        self.wires
+            .get(usize::from(w))
+            .copied()
+            .flatten()
+            .ok_or(TextRefusal::Wiring)
     }
 
     // A gate of the text, over the draft's wires.
@@ -98,24 +75,22 @@ impl Builder {
         ensures adds_the_gate { Left result (building self.new) (added (building self.old) line) }
     {
         let gate = self.resolved(line.gate)?;
-        if !self.is_open(line.gives) {
+        let Some(open @ None) = self.wires.get_mut(usize::from(line.gives)) else {
             return Err(TextRefusal::Wiring);
-        }
-        let wire = append(&mut self.draft, gate)?;
-        self.wires[line.gives as usize] = Some(wire);
+        };
+        *open = Some(self.draft.add(gate)?);
         Ok(())
     }
 
     // The network whose outputs are the text's last `outputs` wires.
-    pub(crate) fn finish(self, outputs: usize) -> Result<Network, TextRefusal>
+    pub(crate) fn finish(self, outputs: u16) -> Result<Network, TextRefusal>
         ensures seals_with_the_last_wires_as_outputs { Answered sealed result (finished outputs (building self)) }
     {
         let Builder { mut draft, wires } = self;
-        let first = wires.len().saturating_sub(outputs);
+        let first = wires.len().saturating_sub(usize::from(outputs));
         mark(&mut draft, &wires[first..])?;
-        match draft.seal() {
-            Ok(network) => Ok(network),
-            Err(_) => Err(TextRefusal::Draft(DraftRefusal::NoOutput)),
-        }
+        draft
+            .seal()
+            .map_err(|_| TextRefusal::Draft(DraftRefusal::NoOutput))
     }
 }

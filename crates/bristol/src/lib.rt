@@ -26,21 +26,15 @@ use reader::Reader;
 const TEXT_LIMIT: usize = 65536;
 
 // The network that a text describes.
+#[tactic(auto, using(crate::proofs::Lengths::not_too_long))]
 pub fn read_network(heap: Global, text: &[u8]) -> Result<Network, TextRefusal>
     ensures too_long_is_refused_first { is_too_long result ≡ nat_lt 65536 (length text.now) }
     ensures is_the_network_of_the_text { Answered sealed result (read_text text.now) }
 {
-    if is_too_long(text) {
+    if text.len() > TEXT_LIMIT {
         return Err(TextRefusal::TooLong);
     }
     read(heap, text)
-}
-
-// Whether a text has more than 65,536 bytes.
-fn is_too_long(text: &[u8]) -> bool
-    ensures has_more_than_65536_bytes { result ≡ nat_lt 65536 (length text.now) }
-{
-    text.len() > TEXT_LIMIT
 }
 
 // The network of a text that is not too long.
@@ -49,14 +43,14 @@ fn read(heap: Global, text: &[u8]) -> Result<Network, TextRefusal>
 {
     let mut reader = Reader::new(text);
     let header = reader.header()?;
-    header.check()?;
-    let mut builder = Builder::new(heap, header.inputs as u16, header.wires)?;
+    let mut builder = Builder::new(heap, header.inputs, header.wires)?;
     add_gates(&mut builder, &mut reader, header.gates)?;
     reader.end()?;
-    builder.finish(header.outputs as usize)
+    builder.finish(header.outputs)
 }
 
 // Reads and adds the next `count` gates.
+#[tactic(auto, using(crate::proofs::Gates::one_more))]
 fn add_gates(builder: &mut Builder, reader: &mut Reader, count: u16) -> Result<(), TextRefusal>
     ensures adds_each { Left result (building builder.new, ahead reader.new) (gates_first count (building builder.old) (ahead reader.old)) }
 {

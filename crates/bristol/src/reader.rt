@@ -1,8 +1,8 @@
 ghost use Rattle.std.specs.Prelude.{◌≡◌, []};
 ghost use Rattle.scan.specs.Cuts.{cut};
-ghost use Rattle.bristol.specs.Reading.{answer, ahead, number_first, operation_first, sum_first, width_first, header_first, line_first, two_first, one_first, end_first};
+ghost use Rattle.bristol.specs.Reading.{answer, ahead, number_first, operation_first, sum_first, width_first, header_first, operands_first, line_first, end_first};
 
-use crate::gate::{Arity, Gate, GateLine, Operation};
+use crate::gate::{GateLine, Operands, Operation};
 use crate::header::Header;
 use refusals::TextRefusal;
 use scan::Scanner;
@@ -27,29 +27,28 @@ impl<'a> Reader<'a> {
     fn number(&mut self) -> Result<u16, TextRefusal>
         ensures reads_a_number { answer result (ahead self.new) ≡ number_first (ahead self.old) }
     {
-        match self.scanner.next() {
-            Some(token) => token.worth().ok_or(TextRefusal::Malformed),
-            None => Err(TextRefusal::Malformed),
-        }
+        self.scanner
+            .next()
+            .and_then(|token| token.worth())
+            .ok_or(TextRefusal::Malformed)
     }
 
     // The next token, which is to be an operation.
     fn operation(&mut self) -> Result<Operation, TextRefusal>
         ensures reads_an_operation { answer result (ahead self.new) ≡ operation_first (ahead self.old) }
     {
-        match self.scanner.next() {
-            Some(token) => Operation::of_word(token.text()),
-            None => Err(TextRefusal::Malformed),
-        }
+        let token = self.scanner.next().ok_or(TextRefusal::Malformed)?;
+        Operation::try_from(token.text())
     }
 
     // The sum of the next `count` numbers.
+    #[tactic(auto, using(crate::proofs::Sums::one_more))]
     fn sum(&mut self, count: u16) -> Result<u32, TextRefusal>
         ensures reads_and_adds_numbers { answer result (ahead self.new) ≡ sum_first count 0 (ahead self.old) }
     {
         let mut sum: u32 = 0;
         for _ in 0..count {
-            sum += self.number()? as u32;
+            sum += u32::from(self.number()?);
         }
         Ok(sum)
     }
@@ -70,12 +69,18 @@ impl<'a> Reader<'a> {
         let wires = self.number()?;
         let inputs = self.total_width()?;
         let outputs = self.total_width()?;
-        Ok(Header {
-            gates,
-            wires,
-            inputs,
-            outputs,
-        })
+        Header::new(gates, wires, inputs, outputs)
+    }
+
+    // The wires read by a gate that reads and gives so many.
+    fn operands(&mut self, reads: u16, gives: u16) -> Result<Operands, TextRefusal>
+        ensures reads_the_operands { answer result (ahead self.new) ≡ operands_first reads gives (ahead self.old) }
+    {
+        match (reads, gives) {
+            (1, 1) => Ok(Operands::One(self.number()?)),
+            (2, 1) => Ok(Operands::Two(self.number()?, self.number()?)),
+            _ => Err(TextRefusal::GateShape),
+        }
     }
 
     // The next gate.
@@ -83,33 +88,11 @@ impl<'a> Reader<'a> {
         ensures reads_a_gate { answer result (ahead self.new) ≡ line_first (ahead self.old) }
     {
         let reads = self.number()?;
-        let gives = self.number()?;
-        match Arity::of_counts(reads, gives)? {
-            Arity::Two => self.line_of_two(),
-            Arity::One => self.line_of_one(),
-        }
-    }
-
-    // What follows the counts of a gate that reads two wires.
-    fn line_of_two(&mut self) -> Result<GateLine, TextRefusal>
-        ensures reads_the_rest_of_a_gate_of_two { answer result (ahead self.new) ≡ two_first (ahead self.old) }
-    {
-        let a = self.number()?;
-        let b = self.number()?;
+        let count = self.number()?;
+        let operands = self.operands(reads, count)?;
         let gives = self.number()?;
         let operation = self.operation()?;
-        let gate = Gate::of_two(operation, a, b)?;
-        Ok(GateLine { gate, gives })
-    }
-
-    // What follows the counts of a gate that reads one wire.
-    fn line_of_one(&mut self) -> Result<GateLine, TextRefusal>
-        ensures reads_the_rest_of_a_gate_of_one { answer result (ahead self.new) ≡ one_first (ahead self.old) }
-    {
-        let a = self.number()?;
-        let gives = self.number()?;
-        let operation = self.operation()?;
-        let gate = Gate::of_one(operation, a)?;
+        let gate = operation.over(operands)?;
         Ok(GateLine { gate, gives })
     }
 

@@ -1,7 +1,6 @@
 -- Runs and T-counts of a list with one gate more.
 use Rattle.std.proofs.Common.{◌≡◌, ◌+◌, ◌*◌, ◌≤◌, Bool, List, [], ◌∷◌, ◌++◌, length, Option, refl, arith}
 use Rattle.circuit.specs.declared.Gate.{Gate}
-use Rattle.circuit.specs.declared.Gate.TheVariants.{Not, Cnot, And, Unand}
 use Rattle.circuit.specs.Gates.{after, run, tcost, tcosts}
 
 pub run_push : (gs : List Gate) (g : Gate) (o : Option (List Bool)) → run (gs ++ (g ∷ [])) o ≡ after (run gs o) g
@@ -13,10 +12,7 @@ tcosts_push [] g = omega arith
 tcosts_push (h ∷ gs) g = omega (arith, tcosts_push gs g)
 
 pub tcost_most : (g : Gate) → tcost g ≤ 4
-tcost_most (Not t) = omega arith
-tcost_most (Cnot a t) = omega arith
-tcost_most (And a b t) = omega arith
-tcost_most (Unand a b t) = omega arith
+tcost_most g = grind arith
 
 pub tcosts_most : (gs : List Gate) → tcosts gs ≤ 4 * length gs
 tcosts_most [] = omega arith

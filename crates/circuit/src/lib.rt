@@ -2,6 +2,7 @@
 #![tactic(auto)]
 
 ghost use Rattle.std.specs.Prelude.{◌≡◌, Some};
+ghost use Rattle.circuit.specs.declared.Gate.TheVariants.{Not};
 ghost use Rattle.circuit.specs.Gates.{inside, apart, tcost, inverse};
 ghost use Rattle.circuit.specs.Printed.{printed};
 
@@ -28,8 +29,7 @@ impl Gate {
         match self {
             Gate::Not { t } => t < width,
             Gate::Cnot { a, t } => a < width && t < width,
-            Gate::And { a, b, t } => a < width && b < width && t < width,
-            Gate::Unand { a, b, t } => a < width && b < width && t < width,
+            Gate::And { a, b, t } | Gate::Unand { a, b, t } => a < width && b < width && t < width,
         }
     }
 
@@ -38,10 +38,9 @@ impl Gate {
         ensures says_apart { result ≡ apart self }
     {
         match self {
-            Gate::Not { t: _ } => true,
+            Gate::Not { .. } => true,
             Gate::Cnot { a, t } => a != t,
-            Gate::And { a, b, t } => a != b && a != t && b != t,
-            Gate::Unand { a, b, t } => a != b && a != t && b != t,
+            Gate::And { a, b, t } | Gate::Unand { a, b, t } => a != b && a != t && b != t,
         }
     }
 
@@ -50,7 +49,7 @@ impl Gate {
         ensures is_t_cost { result ≡ tcost self }
     {
         match self {
-            Gate::And { a: _, b: _, t: _ } => 4,
+            Gate::And { .. } => 4,
             _ => 0,
         }
     }
@@ -60,11 +59,19 @@ impl Gate {
         ensures is_inverse { result ≡ inverse self }
     {
         match self {
-            Gate::Not { t } => Gate::Not { t },
-            Gate::Cnot { a, t } => Gate::Cnot { a, t },
             Gate::And { a, b, t } => Gate::Unand { a, b, t },
             Gate::Unand { a, b, t } => Gate::And { a, b, t },
+            _ => self,
         }
+    }
+}
+
+// What stands in the unused places of a list of fixed size. By hand: a derive takes a case without fields.
+impl Default for Gate {
+    ghost is_default = { λ g. g ≡ Not 0 };
+
+    fn default() -> Gate {
+        Gate::Not { t: 0 }
     }
 }
 

@@ -2,9 +2,7 @@
 // the forms of their outputs. bench/draft_ratio counts its instructions.
 #![tactic(auto)]
 
-ghost use Rattle.std.specs.Prelude.{◌<◌};
-
-use network::{Draft, Network};
+use network::{Draft, Gate, Network};
 use pseudorandom::Generator;
 use refusals::DraftRefusal;
 use std::alloc::Global;
@@ -23,18 +21,17 @@ struct Totals {
     sum: u64,
 }
 
-// Adds a random gate over the first `at` wires: one in six is an AND, one in six an INV.
-fn add_gate(draft: &mut Draft, numbers: &mut Generator, at: u16) -> Result<u16, DraftRefusal>
-    requires some_wire { 0 < at }
-{
+// Adds a random gate over the first `at` wires: one in six is an AND, one in six an INV. A throw of the die
+// picks the gate.
+fn add_gate(draft: &mut Draft, numbers: &mut Generator, at: u16) -> Result<u16, DraftRefusal> {
     let kind = numbers.below(6);
     let a = numbers.below(at);
     let b = numbers.below(at);
-    match kind {
-        0 => draft.and(a, b),
-        1 => draft.inv(a),
-        _ => draft.xor(a, b),
-    }
+    draft.add(match kind {
+        0 => Gate::And(a, b),
+        1 => Gate::Inv(a),
+        _ => Gate::Xor(a, b),
+    })
 }
 
 // A draft of random gates, as many as there is room for.
@@ -51,31 +48,23 @@ fn sealed(mut draft: Draft) -> Result<Network, DraftRefusal> {
     for wire in WIRES - 64..WIRES {
         draft.output(wire)?;
     }
-    match draft.seal() {
-        Ok(network) => Ok(network),
-        Err(_) => Err(DraftRefusal::NoOutput),
-    }
+    draft.seal().map_err(|_| DraftRefusal::NoOutput)
 }
 
 fn sum_of(elements: &[u16]) -> u64 {
-    let mut sum = 0u64;
-    for e in elements {
-        sum = sum.wrapping_add(u64::from(*e));
-    }
-    sum
+    elements
+        .iter()
+        .fold(0, |sum, e| sum.wrapping_add(u64::from(*e)))
 }
 
 // The sum of the elements and constants of all outputs.
 fn outputs_sum(network: &Network) -> u64 {
-    let mut sum = 0u64;
-    for j in 0..network.outputs() {
-        if let Some(form) = network.output(j) {
-            sum = sum
-                .wrapping_add(sum_of(form.elements()))
-                .wrapping_add(u64::from(form.constant()));
-        }
-    }
-    sum
+    (0..network.outputs())
+        .filter_map(|j| network.output(j))
+        .fold(0, |sum, form| {
+            sum.wrapping_add(sum_of(form.elements()))
+                .wrapping_add(u64::from(form.constant()))
+        })
 }
 
 fn counted(heap: Global) -> Result<Totals, DraftRefusal> {
@@ -90,8 +79,6 @@ fn counted(heap: Global) -> Result<Totals, DraftRefusal> {
 }
 
 fn main(rt: HostRuntime) -> io::Result<()> {
-    let Ok(Totals { nodes, sum }) = counted(rt.alloc()) else {
-        return Err(io::Error::other("refused"));
-    };
+    let Totals { nodes, sum } = counted(rt.alloc()).map_err(|_| io::Error::other("refused"))?;
     println!(rt; "nodes {nodes} sum {sum}")
 }

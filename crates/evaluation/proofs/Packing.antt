@@ -1,8 +1,9 @@
 -- Words of bits, one bit more.
-use Rattle.std.proofs.Common.{◌≡◌, ℕ, ◌+◌, ◌-◌, ◌*◌, ◌^◌, ◌<◌, ◌≤◌, Bool, true, false, cond, List, [], ◌∷◌, map, length, get_or, drop, sym, refl, ap, ◌∙◌, ⊎_elim, pow-suc, arith, lit<, length-drop, pow_mono}
+use Rattle.std.proofs.Common.{◌≡◌, ℕ, ◌+◌, ◌*◌, ◌^◌, ◌<◌, ◌≤◌, Bool, true, false, cond, List, [], ◌∷◌, ◌++◌, map, length, get_or, sym, refl, ap, ◌∙◌, ⊎_elim, pow-suc, arith, lit<, Bor, pow_mono}
 use mathlib.Core.Path.{fun_ext}
 use mir.Val.{bool_byte}
-use Rattle.std.proofs.lemmas.List.{drop_more, get_or_past}
+use mathlib.Core.List.{reverse}
+use Rattle.std.proofs.lemmas.List.{get_or_past, map_push, reverse-append, length-reverse, length-map}
 use Rattle.std.proofs.lemmas.Bool.{cases_lt}
 use Rattle.values.specs.Bits.{bits}
 use Rattle.values.specs.Words.{bit, word_of}
@@ -18,20 +19,25 @@ word_lt (b ∷ bs) = omega (arith, bit b, word_lt bs, pow-suc 2 (length bs))
     bit true = omega arith
     bit false = omega arith
 
-pub word_fits : (bs : List Bool) (k : ℕ) → length bs ≤ 64 → word_of (drop k bs) < 18446744073709551616
-word_fits bs k l =
-    let short : length (drop k bs) ≤ 64 = omega (arith, length-drop k bs) in
-    omega (arith, word_lt (drop k bs), pow_mono short)
+pub word_fits : (bs : List Bool) → length bs ≤ 64 → word_of bs < 18446744073709551616
+word_fits bs l = omega (arith, word_lt bs, pow_mono l)
 
-pub bit_added : (bs : List Bool) (i r w : ℕ) → 0 < i → i ≤ length bs → r ≡ bool_byte (get_or bs (i - 1) false) → w ≡ word_of (drop i bs) → r + 2 * w ≡ word_of (drop (i - 1) bs)
-bit_added bs i r w l m e f =
-    let next : (i - 1) + 1 ≡ i = omega arith in
-    (λ k. e k + 2 * f k) ∙ ap (λ c. c + 2 * word_of (drop i bs)) (byte (get_or bs (i - 1) false))
-    ∙ sym (ap word_of (drop_more bs (i - 1) false (omega arith) ∙ ap (λ k. get_or bs (i - 1) false ∷ drop k bs) next))
-  where
-    byte : (b : Bool) → bool_byte b ≡ cond b 1 0
-    byte true = refl
-    byte false = refl
+-- r and w are a further bit and the word of those before it
+module _ (ys : List (Bor Bool)) (y : Bor Bool) (r w : ℕ) (is : r ≡ bool_byte y.now) (h : w ≡ word_of (reverse (map (λ b. b.now) ys))) where
+  further : reverse (map (λ b. b.now) (ys ++ y ∷ [])) ≡ y.now ∷ reverse (map (λ b. b.now) ys)
+  further = ap reverse (map_push (λ b. b.now) ys y) ∙ reverse-append (map (λ b. b.now) ys) (y.now ∷ [])
+
+  pub bit_packed : r + 2 * w ≡ word_of (reverse (map (λ b. b.now) (ys ++ y ∷ [])))
+  bit_packed = (λ k. is k + 2 * h k) ∙ ap (λ c. c + 2 * word_of (reverse (map (λ b. b.now) ys))) (byte y.now) ∙ sym (ap word_of further)
+    where
+      byte : (b : Bool) → bool_byte b ≡ cond b 1 0
+      byte true = refl
+      byte false = refl
+
+  pub packed_fits : length ys < 64 → r + 2 * w < 18446744073709551616
+  packed_fits l =
+      let long : length (y.now ∷ reverse (map (λ b. b.now) ys)) ≤ 64 = omega (arith, length-reverse (map (λ (b : Bor Bool). b.now) ys), length-map ys (λ b. b.now)) in
+      omega (arith, bit_packed ∙ ap word_of further, word_fits (y.now ∷ reverse (map (λ b. b.now) ys)) long)
 
 -- a bit means itself
 pub bits_meant : (bs : List Bool) → map (λ b. b) bs ≡ bs

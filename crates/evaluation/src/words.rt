@@ -1,4 +1,4 @@
-// The value of a network at words of bits.
+// The value of a network at words of bits, taken apart and put together here: the library has no bits of a word.
 ghost use Rattle.std.specs.Prelude.{◌≡◌, ℕ, ◌<◌, ◌≤◌, false, length, IfOk, vec_len, slice_index_or};
 ghost use Rattle.values.specs.Bits.{bits};
 ghost use Rattle.values.specs.Words.{bit, word_of};
@@ -21,11 +21,7 @@ fn bit_of(word: u64, i: u32) -> bool
 fn unpacked(heap: Global, word: u64) -> Result<Vec<bool>, AllocError>
     ensures are_its_bits { IfOk result (λ v. (vec_len v ≡ 64) × ((i : ℕ) → i < 64 → slice_index_or v.items i false ≡ bit word i)) }
 {
-    let mut found = Vec::new(heap);
-    for i in 0..64 {
-        found.push(bit_of(word, i))?;
-    }
-    Ok(found)
+    (0..64).map(|i| bit_of(word, i)).collect(heap)
 }
 
 // The word of these bits, the lowest first.
@@ -34,8 +30,8 @@ fn packed(flags: &[bool]) -> u64
     ensures is_their_word { result ≡ word_of flags.now }
 {
     let mut word = 0;
-    for i in (0..flags.len()).rev() {
-        word = u64::from(flags[i]) + 2 * word;
+    for flag in flags.iter().rev() {
+        word = u64::from(*flag) + 2 * word;
     }
     word
 }
@@ -45,6 +41,6 @@ pub fn evaluate_word(network: &Network, heap: Global, word: u64) -> Result<u64, 
     ensures is_the_word_of_outputs { IfOk result (λ v. v ≡ word_of (output_values bits (bit word) (sealed network.now))) }
 {
     let inputs = unpacked(heap, word)?;
-    let outputs = evaluate(network, heap, inputs.as_slice())?;
-    Ok(packed(outputs.as_slice()))
+    let outputs = evaluate(network, heap, &inputs)?;
+    Ok(packed(&outputs))
 }

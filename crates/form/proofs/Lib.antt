@@ -1,4 +1,3 @@
-pub mod Members
 pub mod Merges
 pub mod Below
 pub mod Sums

@@ -1,9 +1,9 @@
 -- Sets as ascending lists: how a merge goes on.
-use Rattle.std.proofs.Common.{◌≡◌, ℕ, zero, suc, ◌+◌, ◌<◌, ◌≤◌, true, eqb, ltb, ◌⊎◌, List, [], ◌∷◌, ◌++◌, length, get_or, drop, sym, refl, ap, ◌∙◌, subst, inl, inr, ⊎_elim, append_assoc, append-nil, arith}
-use Rattle.std.proofs.lemmas.List.{drop_more, drop_all}
+use Rattle.std.proofs.Common.{◌≡◌, ℕ, ◌<◌, ◌≤◌, true, eqb, ltb, ◌⊎◌, List, [], ◌∷◌, ◌++◌, length, sym, refl, ap, ◌∙◌, subst, inl, inr, ⊎_elim, append_assoc, append-nil, arith}
+use Rattle.std.proofs.lemmas.Cmp.{ranked}
+use Rattle.std.specs.Ordering.{nat_cmp}
+use Rattle.std.specs.declared.cmp.Ordering.TheVariants.{Less, Equal, Greater}
 use Rattle.std.proofs.lemmas.Bool.{ltb-true, lt-ltb, le-ltb, eq-eqb, ne_eqb, and_parts, and_from, cond-true, cond-false, cases_order}
-use Rattle.std.specs.List.{between}
-use Rattle.std.proofs.lemmas.Slice.{between_to_end}
 use Rattle.form.specs.Sets.{below_first, ascending, toggle, symmetric_difference}
 
 abbrev pub Asc : List ℕ → Type 0
@@ -90,47 +90,53 @@ pub merge_none : (xs : List ℕ) → Asc xs → symmetric_difference xs [] ≡ x
 merge_none [] h = refl
 merge_none (x ∷ xs) h = ap (toggle x) (merge_none xs (asc_rest x xs h)) ∙ toggle_low x xs h
 
-pub asc_drop : (i : ℕ) (xs : List ℕ) → Asc xs → Asc (drop i xs)
-asc_drop zero xs h = h
-asc_drop (suc i) [] h = refl
-asc_drop (suc i) (x ∷ xs) h = asc_drop i xs (asc_rest x xs h)
-
--- the same at two indices
-module _ (a b : List ℕ) (i j : ℕ) (ha : Asc a) (hb : Asc b) (la : i < length a) (lb : j < length b) where
-  left_at : drop i a ≡ get_or a i 0 ∷ drop (i + 1) a
-  left_at = drop_more a i 0 la
-
-  right_at : drop j b ≡ get_or b j 0 ∷ drop (j + 1) b
-  right_at = drop_more b j 0 lb
-
-  asc_left : Asc (get_or a i 0 ∷ drop (i + 1) a)
-  asc_left = subst Asc left_at (asc_drop i a ha)
-
-  asc_right : Asc (get_or b j 0 ∷ drop (j + 1) b)
-  asc_right = subst Asc right_at (asc_drop j b hb)
-
-  pub at_left : get_or a i 0 < get_or b j 0 → symmetric_difference (drop i a) (drop j b) ≡ get_or a i 0 ∷ symmetric_difference (drop (i + 1) a) (drop j b)
-  at_left l = rw (left_at, right_at) (merge_left _ _ _ _ l asc_left asc_right)
-
-  pub at_right : get_or b j 0 < get_or a i 0 → symmetric_difference (drop i a) (drop j b) ≡ get_or b j 0 ∷ symmetric_difference (drop i a) (drop (j + 1) b)
-  at_right l = rw (left_at, right_at) (merge_right _ _ _ _ l asc_left)
-
-  pub at_both : get_or a i 0 ≡ get_or b j 0 → symmetric_difference (drop i a) (drop j b) ≡ symmetric_difference (drop (i + 1) a) (drop (j + 1) b)
-  at_both e = rw (left_at, right_at) (merge_both _ _ _ _ e asc_left)
-
-pub pushed : (out more whole rest end : List ℕ) (x : ℕ) → more ≡ out ++ x ∷ [] → whole ≡ x ∷ rest → out ++ whole ≡ end → more ++ rest ≡ end
+pushed : (out more whole rest end : List ℕ) (x : ℕ) → more ≡ out ++ x ∷ [] → whole ≡ x ∷ rest → out ++ whole ≡ end → more ++ rest ≡ end
 pushed out more whole rest end x p w h = ap (λ l. l ++ rest) p ∙ append_assoc out (x ∷ []) rest ∙ ap (λ l. out ++ l) (sym w) ∙ h
 
+-- out is merged so far, a and b are left, and all is to come of it
+pub record Merging (out a b all : List ℕ) : Type 0 where
+  pub left : Asc a
+  pub right : Asc b
+  pub merged : out ++ symmetric_difference a b ≡ all
+
+-- a is x and a', and b is y and b'
+module _ (out a b a' b' all : List ℕ) (x y : ℕ) (p : a ≡ x ∷ a') (q : b ≡ y ∷ b') (h : Merging out a b all) where
+  asc_a : Asc (x ∷ a')
+  asc_a = subst Asc p h.left
+
+  asc_b : Asc (y ∷ b')
+  asc_b = subst Asc q h.right
+
+  pub takes_left : (more : List ℕ) → Less ≡ nat_cmp x y → more ≡ out ++ x ∷ [] → Merging more a' b all
+  takes_left more l m = record {
+    left = asc_rest x a' asc_a;
+    right = h.right;
+    merged = pushed out more _ _ all x m (rw (p, q) (merge_left x y a' b' (ranked x y Less l) asc_a asc_b)) h.merged;
+  }
+
+  pub takes_right : (more : List ℕ) → Greater ≡ nat_cmp x y → more ≡ out ++ y ∷ [] → Merging more a b' all
+  takes_right more l m = record {
+    left = h.left;
+    right = asc_rest y b' asc_b;
+    merged = pushed out more _ _ all y m (rw (p, q) (merge_right x y a' b' (ranked x y Greater l) asc_a)) h.merged;
+  }
+
+  pub takes_none : Equal ≡ nat_cmp x y → Merging out a' b' all
+  takes_none l = record {
+    left = asc_rest x a' asc_a;
+    right = asc_rest y b' asc_b;
+    merged = ap (λ s. out ++ s) (sym (rw (p, q) (merge_both x y a' b' (ranked x y Equal l) asc_a))) ∙ h.merged;
+  }
+
 -- one side is used up
-rest_plain : (a b : List ℕ) (i j : ℕ) → Asc a → (length a ≤ i) ⊎ (length b ≤ j) → symmetric_difference (drop i a) (drop j b) ≡ drop i a ++ drop j b
-rest_plain a b i j ha (inl h) = rw (drop_all i a h)
-rest_plain a b i j ha (inr h) = rw (drop_all j b h) (merge_none (drop i a) (asc_drop i a ha) ∙ sym (append-nil (drop i a)))
+rest_plain : (a b : List ℕ) → Asc a → (length a ≡ 0) ⊎ (length b ≡ 0) → symmetric_difference a b ≡ a ++ b
+rest_plain [] b h u = refl
+rest_plain (x ∷ a) [] h u = merge_none (x ∷ a) h ∙ sym (append-nil (x ∷ a))
+rest_plain (x ∷ a) (y ∷ b) h (inl u) = absurd (omega arith)
+rest_plain (x ∷ a) (y ∷ b) h (inr u) = absurd (omega arith)
 
-pub rest_of : (a b : List ℕ) (i j : ℕ) → Asc a → (length a ≤ i) ⊎ (length b ≤ j) → symmetric_difference (drop i a) (drop j b) ≡ between i (length a) a ++ between j (length b) b
-rest_of a b i j ha h = rw (between_to_end a i (length a) (omega arith), between_to_end b j (length b) (omega arith)) (rest_plain a b i j ha h)
-
-pub ends : (out mid all a b left end : List ℕ) → mid ≡ out ++ a → all ≡ mid ++ b → left ≡ a ++ b → out ++ left ≡ end → all ≡ end
-ends out mid all a b left end p q r h = q ∙ ap (λ l. l ++ b) p ∙ append_assoc out a b ∙ ap (λ l. out ++ l) (sym r) ∙ h
+pub merge_ends : (out mid end a b all : List ℕ) → (length a ≡ 0) ⊎ (length b ≡ 0) → mid ≡ out ++ a → end ≡ mid ++ b → Merging out a b all → end ≡ all
+merge_ends out mid end a b all u p q h = q ∙ ap (λ l. l ++ b) p ∙ append_assoc out a b ∙ ap (λ l. out ++ l) (sym (rest_plain a b h.left u)) ∙ h.merged
 
 pub asc_merged : (v xs ys : List ℕ) → v ≡ symmetric_difference xs ys → Asc ys → Asc v
 asc_merged v xs ys e h = subst Asc (sym e) (asc_difference xs ys h)

@@ -1,5 +1,7 @@
 -- Sets of numbers as ascending lists.
-use Rattle.std.specs.Prelude.{ℕ, Bool, true, false, cond, ◌&&◌, ◌||◌, List, [], ◌∷◌, Some, None, Option, ◌==◌, nat_lt}
+use Rattle.std.specs.Prelude.{ℕ, Bool, true, false, cond, not, ◌&&◌, List, [], ◌∷◌, Option, ◌==◌, nat_eq, nat_lt}
+use Rattle.std.specs.Cmp.Lexicographic.{pointwise}
+use Rattle.std.specs.List.{find, list_any}
 
 -- x is below the first of the list
 abbrev pub below_first : ℕ → List ℕ → Bool
@@ -30,16 +32,11 @@ is_empty [] = true
 is_empty (x ∷ xs) = false
 
 abbrev pub member : ℕ → List ℕ → Bool
-member x [] = false
-member x (y ∷ ys) = y == x || member x ys
+member x xs = list_any (λ y. y == x) xs
 
 -- the lowest element of the first set that is not in the second
 abbrev pub lowest_outside : List ℕ → List ℕ → Option ℕ
-lowest_outside [] ys = None
-lowest_outside (x ∷ xs) ys = cond (member x ys) (lowest_outside xs ys) (Some x)
+lowest_outside xs ys = find (λ x. not (member x ys)) xs
 
 abbrev pub same_set : List ℕ → List ℕ → Bool
-same_set [] [] = true
-same_set [] (y ∷ ys) = false
-same_set (x ∷ xs) [] = false
-same_set (x ∷ xs) (y ∷ ys) = x == y && same_set xs ys
+same_set xs ys = pointwise nat_eq xs ys

@@ -1,4 +1,5 @@
-// A linear form: the XOR of a set of basis elements and a constant bit.
+// A linear form: the XOR of a set of basis elements and a constant bit. An ascending vector: with a BTreeSet, drafts take
+// more than twice the instructions, and the bar is 1.5 times (bench/README.md).
 ghost use Rattle.std.specs.Prelude.{◌≡◌, true};
 ghost use Rattle.form.specs.Sets.{ascending};
 

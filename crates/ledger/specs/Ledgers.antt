@@ -1,5 +1,6 @@
 -- The standing moves of a ledger, and what a move does to what is held.
-use Rattle.std.specs.Prelude.{◌≡◌, ℕ, ◌+◌, ◌-◌, ◌^◌, ◌<◌, Bool, true, false, cond, not, ◌&&◌, ◌||◌, List, [], ◌∷◌, reverse, take, is_some, Some, None, Option, ◌==◌, nat_lt, slice_index_or, slice_set}
+use Rattle.std.specs.Prelude.{◌≡◌, ℕ, ◌+◌, ◌-◌, ◌^◌, ◌<◌, Bool, false, cond, not, ◌||◌, List, ◌∷◌, reverse, take, is_some, Some, None, Option, ◌==◌, nat_lt, slice_index_or, slice_set}
+use Rattle.std.specs.List.{list_all, list_any}
 use Rattle.ledger.specs.declared.moves.Move.{Move}
 use Rattle.ledger.specs.declared.moves.Move.TheVariants.{Compute, Release, Copy}
 use Rattle.ledger.specs.declared.ledger.Ledger.{Ledger}
@@ -8,6 +9,16 @@ use Rattle.ledger.specs.declared.ledger.Ledger.{Ledger}
 abbrev pub past : Ledger → List Move
 past L = reverse (take L.standing L.log)
 
+-- how many moves stand
+abbrev pub standing : Ledger → ℕ
+standing L = L.standing
+
+-- the move that takes another back
+abbrev pub undoing : Move → Move
+undoing (Compute i l) = Release i l
+undoing (Release i l) = Compute i l
+undoing (Copy j) = Copy j
+
 -- the lines of the held nodes after a move, and with that move taken back
 abbrev pub held_after : List (Option ℕ) → Move → List (Option ℕ)
 held_after held (Compute i l) = slice_set held i (Some l)
@@ -15,9 +26,7 @@ held_after held (Release i l) = slice_set held i None
 held_after held (Copy j) = held
 
 abbrev pub held_before : List (Option ℕ) → Move → List (Option ℕ)
-held_before held (Compute i l) = slice_set held i None
-held_before held (Release i l) = slice_set held i (Some l)
-held_before held (Copy j) = held
+held_before held made = held_after held (undoing made)
 
 -- a copy turns the parity of its output's copies, forwards and backwards alike
 abbrev pub odd_after : List Bool → Move → List Bool
@@ -39,8 +48,7 @@ abbrev pub ready : ℕ → List (Option ℕ) → ℕ → Bool
 ready n held e = nat_lt e n || is_some (slice_index_or held (e - n) None)
 
 abbrev pub all_ready : ℕ → List (Option ℕ) → List ℕ → Bool
-all_ready n held [] = true
-all_ready n held (e ∷ es) = ready n held e && all_ready n held es
+all_ready n held es = list_all (ready n held) es
 
 -- a node is held on line l
 abbrev pub on_line : Option ℕ → ℕ → Bool
@@ -49,16 +57,13 @@ on_line (Some k) l = k == l
 
 -- no node is held on line l
 abbrev pub free_line : ℕ → List (Option ℕ) → Bool
-free_line l [] = true
-free_line l (o ∷ held) = not (on_line o l) && free_line l held
+free_line l held = list_all (λ o. not (on_line o l)) held
 
 abbrev pub any_held : List (Option ℕ) → Bool
-any_held [] = false
-any_held (o ∷ held) = is_some o || any_held held
+any_held held = list_any is_some held
 
 abbrev pub all_true : List Bool → Bool
-all_true [] = true
-all_true (b ∷ bs) = b && all_true bs
+all_true bs = list_all (λ b. b) bs
 
 -- M is L with one more move, of so many gates
 pub record Noted (L : Ledger) (made : Move) (cost : ℕ) (M : Ledger) : Type 0 where
@@ -70,13 +75,13 @@ pub record Noted (L : Ledger) (made : Move) (cost : ℕ) (M : Ledger) : Type 0 w
 -- M is L with its last move taken off
 pub record TookOff (L : Ledger) (made : Move) (M : Ledger) : Type 0 where
   pub stood : past L ≡ made ∷ past M
-  pub fewer : M.standing + 1 ≡ L.standing
+  pub fewer : standing M + 1 ≡ standing L
   pub holds : M.held ≡ held_before L.held made
   pub turns : M.odd ≡ odd_after L.odd made
   pub owes : M.undo ≡ L.undo
 
 abbrev pub TakenBack : Ledger → Option Move → Ledger → Type 0
-TakenBack L None M = (L.standing ≡ 0) × (M ≡ L)
+TakenBack L None M = (standing L ≡ 0) × (M ≡ L)
 TakenBack L (Some made) M = TookOff L made M
 
 -- M is L with so many gates fewer to undo

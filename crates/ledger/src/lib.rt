@@ -4,5 +4,5 @@
 mod ledger;
 mod moves;
 
-pub use ledger::Ledger;
+pub use ledger::{Ledger, Lines};
 pub use moves::Move;

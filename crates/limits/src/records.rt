@@ -1,31 +1,9 @@
 // Making records: numbers 10 and 11. The bytes of gates and of the trailer.
 use circuit::Gate;
 use record::Record;
+use refusals::{MakeRefusal, numbered};
 use sinks::Sink;
-use std::alloc::{AllocError, Global};
-use std::process::Abort;
 use std::test::Fail;
-
-// The number of places of a record of this width over so many bytes, or the number that it is refused with.
-fn places(heap: Global, width: u16, size: usize) -> Result<Result<u64, u8>, AllocError> {
-    let mut buffer = vec![in heap; 0u8; size]?;
-    match Record::new(buffer.as_mut_slice(), width) {
-        Ok(record) => Ok(Ok(record.free())),
-        Err(refusal) => Ok(Err(refusal.number())),
-    }
-}
-
-fn expect(
-    rt: &impl Abort,
-    shown: &str,
-    heap: Global,
-    width: u16,
-    size: usize,
-    answer: Result<u64, u8>,
-) -> Result<(), Fail> {
-    assert_eq!(rt; places(heap, width, size)?, answer, "{shown}");
-    Ok(())
-}
 
 // What is shown, a width and a size, and the places or the refusal. The width is asked for before the size.
 const CASES: [(&str, u16, usize, Result<u64, u8>); 13] = [
@@ -44,10 +22,16 @@ const CASES: [(&str, u16, usize, Result<u64, u8>); 13] = [
     ("a place takes eight bytes", 5, 28, Ok(2)),
 ];
 
+// The places of a record of this width over the buffer.
+fn places(buffer: &mut [u8], width: u16) -> Result<u64, MakeRefusal> {
+    Ok(Record::new(buffer, width)?.free())
+}
+
 #[test]
 fn making_answers_its_first_no(rt: HostRuntime) -> Result<(), Fail> {
-    for (shown, width, size, answer) in &CASES {
-        expect(&rt, shown, rt.alloc(), *width, *size, *answer)?;
+    for (shown, width, size, expected) in &CASES {
+        let mut buffer = vec![in rt.alloc(); 0u8; *size]?;
+        assert_eq!(rt; numbered(places(&mut buffer, *width)), *expected, "{shown}");
     }
     Ok(())
 }

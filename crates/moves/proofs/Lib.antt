@@ -1,2 +1,3 @@
-pub mod Cuts
+pub mod Adding
+pub mod Appends
 pub mod Undoing

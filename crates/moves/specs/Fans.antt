@@ -1,13 +1,24 @@
 -- Gates that add a form to a line, and gates around a core.
-use Rattle.std.specs.Prelude.{ℕ, Bool, cond, List, [], ◌∷◌, ◌++◌, map, reverse, Some, None, Option, ◌==◌}
+use Rattle.std.specs.Prelude.{ℕ, Bool, cond, not, List, [], ◌∷◌, ◌++◌, filter, map, reverse, Some, None, Option, ◌==◌}
 use Rattle.circuit.specs.declared.Gate.{Gate}
 use Rattle.circuit.specs.declared.Gate.TheVariants.{Not, Cnot}
 use Rattle.circuit.specs.Gates.{inverse}
 use Rattle.form.specs.Shapes.{Shape}
+use Rattle.ledger.specs.Ledgers.{line_of}
+use Rattle.ledger.specs.declared.ledger.lines.Lines.{Lines}
+
+-- the line of a basis element
+abbrev pub line_by : Lines → ℕ → ℕ
+line_by lines e = line_of lines.inputs lines.ledger.now.held e
 
 -- a not where the constant is 1
 abbrev pub not_if : Bool → ℕ → List Gate
 not_if constant t = cond constant (Not t ∷ []) []
+
+-- the elements without the one that is left out, where there is one
+abbrev pub others : Option ℕ → List ℕ → List ℕ
+others None es = es
+others (Some c) es = filter (λ e. not (e == c)) es
 
 -- `at e` is the line of the basis element e
 module _ (at : ℕ → ℕ) where
@@ -17,8 +28,7 @@ module _ (at : ℕ → ℕ) where
 
   -- each element but the carrier is added to the carrier's line
   abbrev pub fan : ℕ → List ℕ → List Gate
-  fan c [] = []
-  fan c (e ∷ es) = cond (e == c) (fan c es) (Cnot (at e) (at c) ∷ fan c es)
+  fan c es = adds (at c) (others (Some c) es)
 
   -- a form is added to line t
   abbrev pub copied : Shape → ℕ → List Gate

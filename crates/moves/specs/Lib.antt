@@ -1,4 +1,4 @@
-pub mod Buffers
 pub mod Fans
 pub mod Spelled
+pub mod Spellers
 pub mod Spelling

@@ -1,5 +1,6 @@
 -- The gates that a move spells.
 use Rattle.std.specs.Prelude.{ℕ, ◌+◌, Bool, cond, List, [], ◌∷◌, ◌++◌, is_some, Some, None, Option, nat_lt}
+use Rattle.std.specs.List.{flat_map}
 use Rattle.circuit.specs.declared.Gate.{Gate}
 use Rattle.circuit.specs.declared.Gate.TheVariants.{And, Unand}
 use Rattle.form.specs.Sets.{lowest_outside}
@@ -29,13 +30,20 @@ first_carrier d = cond (first_leads d) (or_zero (lowest_outside d.first.set d.se
 abbrev pub second_carrier : NodeShape → ℕ
 second_carrier d = cond (first_leads d) (lowest d.second.set) (or_zero (lowest_outside d.second.set d.first.set))
 
+-- the sets in the order in which they are formed, each with its carrier
+abbrev pub in_order : NodeShape → List (List ℕ × ℕ)
+in_order d = cond (first_leads d)
+    ((d.first.set, first_carrier d) ∷ (d.second.set, second_carrier d) ∷ [])
+    ((d.second.set, second_carrier d) ∷ (d.first.set, first_carrier d) ∷ [])
+
+-- each set, formed on its carrier's line
+abbrev pub formed : (ℕ → ℕ) → List (List ℕ × ℕ) → List Gate
+formed at sets = flat_map (λ s. fan at s.1 s.0) sets
+
 -- `at e` is the line of the basis element e
 module _ (at : ℕ → ℕ) (d : NodeShape) where
-  -- each set, formed on its carrier's line
   abbrev pub sets_formed : List Gate
-  sets_formed = cond (first_leads d)
-      (fan at (first_carrier d) d.first.set ++ fan at (second_carrier d) d.second.set)
-      (fan at (second_carrier d) d.second.set ++ fan at (first_carrier d) d.first.set)
+  sets_formed = formed at (in_order d)
 
   -- each form, on its carrier's line
   abbrev pub prelude : List Gate

@@ -1,8 +1,8 @@
 // The gates that each move of a session spells.
 #![tactic(auto)]
 
-mod buffer;
-mod fans;
+mod carriers;
+mod speller;
 mod spelling;
 
 pub use spelling::Spelling;

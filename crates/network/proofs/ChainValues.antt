@@ -9,12 +9,13 @@ use Rattle.form.specs.Sets.{all_below, is_empty, same_set}
 use Rattle.form.specs.Shapes.{Shape, zero_form, element_form, xor_form, inverted_form}
 use Rattle.form.specs.Values.{value}
 use Rattle.form.proofs.Below.{below_at}
-use Rattle.form.proofs.Members.{same_decides}
+use Rattle.std.proofs.lemmas.Slice.Eq.{bytes_eq-Decides}
 use Rattle.form.proofs.Values.{empty_is, value_xor, value_inverted, value_element, value_zero, value_empty, value_like, value_unlike, value_alike}
 use Rattle.network.specs.Wires.{Net, WireShape, NodeShape, Body, no_wire, no_node, no_wires, form_at, and_form, with_wire, with_node, add_and, add, grown, fits, valid, within, proper_node, proper_nodes, wire_count}
 use Rattle.network.specs.Values.{steps, step_value, chain, basis, next_node, node_values, wire_value, HasValueOfChain}
 use Rattle.network.specs.declared.wire.Step.{Step}
-use Rattle.network.specs.declared.wire.Step.TheVariants.{Input, Xor, And, Inv}
+use Rattle.network.specs.declared.wire.Gate.TheVariants.{Xor, And, Inv}
+use Rattle.network.specs.declared.wire.Step.TheVariants.{Input, Gate}
 use Rattle.network.proofs.Kept.{add_length, proper_chain}
 use Rattle.network.proofs.Proper.{Proper, and_cases, within_below, form_within, proper_add}
 
@@ -40,7 +41,7 @@ module _ {V : Type 0} (R : BooleanRing V) where
 
     sets_equal : same_set f.set g.set ≡ true → IsProduct (cond (xor f.constant g.constant) zero_form f)
     sets_equal s =
-        let e = (same_decides f.set g.set).0 s in
+        let e = (bytes_eq-Decides f.set g.set).0 s in
         cond_both (xor f.constant g.constant) _ _ IsProduct
         (λ b. value_zero R at ∙ sym (product_complement R _) ∙ ap (R.product (value R at f)) (sym (value_unlike R at f g e b)))
         (λ b. sym (R.product_self _) ∙ ap (R.product (value R at f)) (sym (value_like R at f g e b)))
@@ -164,12 +165,12 @@ module _ {V : Type 0} (R : BooleanRing V) where
     step_more b vs p h Input e =
         let k = length b.wires in
         wire_more b vs h Input (element_form k) (x (length vs)) (value_element R (elements b) k ∙ cond-true (ltb k n) _ _ e ∙ ap x (sym h.long))
-    step_more b vs p h (Xor i j) e =
+    step_more b vs p h (Gate (Xor i j)) e =
         let t = two_reads b vs h i j e in
-        wire_more b vs h (Xor i j) (xor_form (form_at b i) (form_at b j)) _ (value_xor R _ (form_at b i) (form_at b j) ∙ (λ k. R.sum (h.right i t.0 k) (h.right j t.1 k)))
-    step_more b vs p h (And i j) e = let t = two_reads b vs h i j e in and_more b vs p h (And i j) i j t.0 t.1
-    step_more b vs p h (Inv i) e =
-        wire_more b vs h (Inv i) (inverted_form (form_at b i)) _ (value_inverted R _ (form_at b i) ∙ ap (R.sum R.one) (h.right i (ltb-true i (length b.wires) e)))
+        wire_more b vs h (Gate (Xor i j)) (xor_form (form_at b i) (form_at b j)) _ (value_xor R _ (form_at b i) (form_at b j) ∙ (λ k. R.sum (h.right i t.0 k) (h.right j t.1 k)))
+    step_more b vs p h (Gate (And i j)) e = let t = two_reads b vs h i j e in and_more b vs p h (Gate (And i j)) i j t.0 t.1
+    step_more b vs p h (Gate (Inv i)) e =
+        wire_more b vs h (Gate (Inv i)) (inverted_form (form_at b i)) _ (value_inverted R _ (form_at b i) ∙ ap (R.sum R.one) (h.right i (ltb-true i (length b.wires) e)))
 
     run_more : (ss : List Step) (b : Body) (vs : List V) (q : ℕ) → length b.wires ≡ q → Proper n b → Faithful b vs → valid n q ss ≡ true → Faithful (grown n b ss) (chain R x vs ss)
     run_more [] b vs q e p h ok = h

@@ -1,14 +1,14 @@
 -- Lists of wires, nodes and outputs by one more.
-use Rattle.std.proofs.Common.{◌≡◌, ℕ, zero, suc, ◌+◌, ◌<◌, ◌≤◌, Bool, true, false, cond, ltb, List, [], ◌∷◌, ◌++◌, map, length, replicate, None, sym, refl, ap, ◌∙◌, subst, add-zero, add-one, arith}
+use Rattle.std.proofs.Common.{◌≡◌, ℕ, zero, suc, ◌+◌, ◌<◌, ◌≤◌, Bool, true, false, cond, ltb, List, [], ◌∷◌, ◌++◌, map, length, replicate, sym, refl, ap, ◌∙◌, subst, add-zero, arith}
 use mathlib.Core.Logic.{∥∥₁_map}
-use Rattle.std.proofs.lemmas.List.{map_push, length-map}
+use Rattle.std.proofs.lemmas.List.{map_push, length-map, replicate_more}
 use Rattle.std.proofs.lemmas.Bool.{and_parts, and_from, lt-ltb}
 use Rattle.form.specs.Sets.{all_below}
 use Rattle.form.specs.Shapes.{shape, element_form}
 use Rattle.form.proofs.Below.{below_push}
-use Rattle.network.specs.Wires.{Body, body_of, wire_shape, node_shape, steps_of, no_wires, input_wire, add, add_and, with_wire, form_at, and_form, node_over, grown, fits, valid}
+use Rattle.network.specs.Wires.{Body, body_of, wire_shape, node_shape, steps_of, no_wires, input_wire, add, with_wire, with_node, grown, fits, valid}
 use Rattle.network.specs.declared.wire.Step.{Step}
-use Rattle.network.specs.declared.wire.Step.TheVariants.{Input, And}
+use Rattle.network.specs.declared.wire.Step.TheVariants.{Input}
 use Rattle.network.specs.declared.wire.Wire.{Wire}
 use Rattle.network.specs.declared.wire.Node.{Node}
 
@@ -31,13 +31,25 @@ pub body_push : (ws : List Wire) (ns : List Node) (w : Wire) → body_of (ws ++ 
 body_push ws ns w = ap (λ l. record { wires = l; nodes = map node_shape ns }) (map_push wire_shape ws w)
 
 module _ (n : ℕ) (ws : List Wire) (ns : List Node) (w : Wire) where
+  -- one wire more, by the rules
+  pub built_more : (ws' : List Wire) (ns' : List Node) → ws' ≡ ws ++ w ∷ [] → body_of ws' ns' ≡ add n (body_of ws ns) w.step → Built n ws ns → Built n ws' ns'
+  built_more ws' ns' p e h =
+      ap (λ l. grown n no_wires (steps_of l)) p ∙ ap (grown n no_wires) (map_push (λ x. x.step) ws w) ∙ grown_push n no_wires (steps_of ws) w.step ∙ ap (λ b. add n b w.step) h ∙ sym e
+
   built_push : add n (body_of ws ns) w.step ≡ with_wire (body_of ws ns) w.step (shape w.form) → Built n ws ns → Built n (ws ++ w ∷ []) ns
-  built_push right h =
-      ap (grown n no_wires) (map_push (λ x. x.step) ws w) ∙ grown_push n no_wires (steps_of ws) w.step ∙ ap (λ b. add n b w.step) h ∙ right ∙ sym (body_push ws ns w)
+  built_push right = built_more (ws ++ w ∷ []) ns refl (body_push ws ns w ∙ sym right)
 
   pub built_cases : (more : List Wire) (ok : Bool) → more ≡ cond ok (ws ++ w ∷ []) ws → add n (body_of ws ns) w.step ≡ with_wire (body_of ws ns) w.step (shape w.form) → ∥ Built n ws ns ∥₁ → ∥ Built n more ns ∥₁
   built_cases more true e right h = ∥∥₁_map h (λ b. subst (λ l. Built n l ns) (sym e) (built_push right b))
   built_cases more false e right h = ∥∥₁_map h (λ b. subst (λ l. Built n l ns) (sym e) b)
+
+  -- the wire's form is a new node m
+  pub node_added : (ws' : List Wire) (ns' : List Node) (m : Node) → ws' ≡ ws ++ w ∷ [] → ns' ≡ ns ++ m ∷ [] → shape w.form ≡ element_form (n + length (map node_shape ns)) → add n (body_of ws ns) w.step ≡ with_wire (with_node (body_of ws ns) (shape m.first) (shape m.second)) w.step (element_form (n + length (map node_shape ns))) → body_of ws' ns' ≡ add n (body_of ws ns) w.step
+  node_added ws' ns' m p q alone right =
+      (λ t. body_of (p t) (q t))
+      ∙ (λ t. record { wires = map_push wire_shape ws w t; nodes = map_push node_shape ns m t })
+      ∙ ap (λ f. record { wires = map wire_shape ws ++ (record { step = w.step; form = f } ∷ []); nodes = map node_shape ns ++ (node_shape m ∷ []) }) alone
+      ∙ sym right
 
 pub valid_cases : (n : ℕ) (ws : List Wire) (w : Wire) (more : List Wire) (ok : Bool) → more ≡ cond ok (ws ++ w ∷ []) ws → fits n (length (map wire_shape ws)) w.step ≡ true → valid n 0 (steps_of ws) ≡ true → valid n 0 (steps_of more) ≡ true
 valid_cases n ws w more true e k h =
@@ -47,10 +59,6 @@ valid_cases n ws w more true e k h =
 valid_cases n ws w more false e k h = subst (λ l. valid n 0 (steps_of l) ≡ true) (sym e) h
 
 -- the inputs of a new draft
-replicate_push : {X : Type 0} (k : ℕ) (x : X) → replicate k x ++ x ∷ [] ≡ replicate (suc k) x
-replicate_push zero x = refl
-replicate_push (suc k) x = ap (λ l. x ∷ l) (replicate_push k x)
-
 pub valid_inputs : (n p k : ℕ) → p + k ≤ n → valid n p (replicate k Input) ≡ true
 valid_inputs n p zero h = refl
 valid_inputs n p (suc k) h = and_from (ltb p n) _ (lt-ltb p n (omega arith)) (valid_inputs n (p + 1) k (omega arith))
@@ -61,32 +69,9 @@ inputs_step n i ws more w long e is steps built =
     ap (λ x. add n (body_of ws []) x.step) is
     ∙ ap (λ k. with_wire (body_of ws []) Input (element_form k)) (length-map ws wire_shape ∙ long)
     ∙ sym (ap (λ x. with_wire (body_of ws []) x.step x.form) is) in (
-      ap steps_of e ∙ map_push (λ x. x.step) ws w ∙ (λ k. steps k ++ (is k).step ∷ []) ∙ replicate_push i Input ∙ ap (λ k. replicate k Input) (sym (add-one i)),
+      ap steps_of e ∙ map_push (λ x. x.step) ws w ∙ (λ k. steps k ++ (is k).step ∷ []) ∙ replicate_more i Input,
       subst (λ l. Built n l []) (sym e) (built_push n ws [] w right built),
     )
-
--- a wire with a node of its own
-module _ (n i j : ℕ) (ws : List Wire) (ns : List Node) (w : Wire) (m : Node) where
-  abbrev pub Due : Type 0
-  Due = and_form (form_at (body_of ws ns) i) (form_at (body_of ws ns) j) ≡ None
-
-  node_added : w.step ≡ And i j → Due → shape w.form ≡ element_form (n + length (map node_shape ns)) → node_shape m ≡ node_over (body_of ws ns) i j → body_of (ws ++ w ∷ []) (ns ++ m ∷ []) ≡ add n (body_of ws ns) (And i j)
-  node_added st due fm pr =
-      (λ t. record { wires = map_push wire_shape ws w t; nodes = map_push node_shape ns m t })
-      ∙ (λ t. record { wires = map wire_shape ws ++ (record { step = st t; form = fm t } ∷ []); nodes = map node_shape ns ++ (pr t ∷ []) })
-      ∙ sym (ap (add_and n (body_of ws ns) (And i j) (form_at (body_of ws ns) i) (form_at (body_of ws ns) j)) due)
-
-  node_built : w.step ≡ And i j → body_of (ws ++ w ∷ []) (ns ++ m ∷ []) ≡ add n (body_of ws ns) (And i j) → Built n ws ns → Built n (ws ++ w ∷ []) (ns ++ m ∷ [])
-  node_built st e h =
-      ap (grown n no_wires) (map_push (λ x. x.step) ws w) ∙ grown_push n no_wires (steps_of ws) w.step ∙ (λ t. add n (h t) (st t)) ∙ sym e
-
-  -- the same of lists that are named
-  pub node_after : (ws' : List Wire) (ns' : List Node) → ws' ≡ ws ++ w ∷ [] → ns' ≡ ns ++ m ∷ [] → w.step ≡ And i j → Due → shape w.form ≡ element_form (n + length (map node_shape ns)) → node_shape m ≡ node_over (body_of ws ns) i j → body_of ws' ns' ≡ add n (body_of ws ns) (And i j)
-  node_after ws' ns' p q st due fm pr = (λ t. body_of (p t) (q t)) ∙ node_added st due fm pr
-
-  pub node_kept : (ws' : List Wire) (ns' : List Node) → ws' ≡ ws ++ w ∷ [] → ns' ≡ ns ++ m ∷ [] → w.step ≡ And i j → Due → shape w.form ≡ element_form (n + length (map node_shape ns)) → node_shape m ≡ node_over (body_of ws ns) i j → ∥ Built n ws ns ∥₁ → ∥ Built n ws' ns' ∥₁
-  node_kept ws' ns' p q st due fm pr h =
-      ∥∥₁_map h (λ b. subst (λ l. Built n l ns') (sym p) (subst (Built n (ws ++ w ∷ [])) (sym q) (node_built st (node_added st due fm pr) b)))
 
 -- outputs stay below the number of wires
 pub below_cases : (ws more : List ℕ) (w m : ℕ) (ok : Bool) → more ≡ cond ok (ws ++ w ∷ []) ws → w < m → all_below ws m ≡ true → all_below more m ≡ true

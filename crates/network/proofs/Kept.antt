@@ -7,7 +7,8 @@ use Rattle.std.proofs.lemmas.Bool.{and_parts}
 use Rattle.form.specs.Shapes.{Shape}
 use Rattle.network.specs.Wires.{Body, wire_shape, node_shape, body_of, steps_of, no_wires, form_at, and_form, add_and, add, grown, fits, valid, forms_within, proper_nodes}
 use Rattle.network.specs.declared.wire.Step.{Step}
-use Rattle.network.specs.declared.wire.Step.TheVariants.{Input, Xor, And, Inv}
+use Rattle.network.specs.declared.wire.Gate.TheVariants.{Xor, And, Inv}
+use Rattle.network.specs.declared.wire.Step.TheVariants.{Input, Gate}
 use Rattle.network.specs.declared.wire.Wire.{Wire}
 use Rattle.network.specs.declared.wire.Node.{Node}
 use Rattle.network.proofs.Grows.{Built}
@@ -16,13 +17,13 @@ use Rattle.network.proofs.Proper.{Proper, proper_add}
 -- a step is one wire more
 pub add_length : (n : ℕ) (b : Body) (s : Step) → length (add n b s).wires ≡ length b.wires + 1
 add_length n b Input = length_push b.wires _
-add_length n b (Xor i j) = length_push b.wires _
-add_length n b (And i j) = either (and_form (form_at b i) (form_at b j))
+add_length n b (Gate (Xor i j)) = length_push b.wires _
+add_length n b (Gate (And i j)) = either (and_form (form_at b i) (form_at b j))
   where
-    either : (o : Option Shape) → length (add_and n b (And i j) (form_at b i) (form_at b j) o).wires ≡ length b.wires + 1
+    either : (o : Option Shape) → length (add_and n b (Gate (And i j)) (form_at b i) (form_at b j) o).wires ≡ length b.wires + 1
     either (Some h) = length_push b.wires _
     either None = length_push b.wires _
-add_length n b (Inv i) = length_push b.wires _
+add_length n b (Gate (Inv i)) = length_push b.wires _
 
 proper_grown : (n p : ℕ) (b : Body) (ss : List Step) → length b.wires ≡ p → Proper n b → valid n p ss ≡ true → Proper n (grown n b ss)
 proper_grown n p b [] e h ok = h

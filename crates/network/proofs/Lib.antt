@@ -1,5 +1,5 @@
 pub mod Grows
-pub mod Questions
+pub mod Counts
 pub mod Lookups
 pub mod Proper
 pub mod Kept

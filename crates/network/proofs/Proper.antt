@@ -9,7 +9,8 @@ use Rattle.form.proofs.Below.{below_more, below_difference}
 use Rattle.form.proofs.Merges.{asc_difference}
 use Rattle.network.specs.Wires.{WireShape, NodeShape, Body, no_wire, no_node, form_at, and_form, with_wire, with_node, add_and, add, fits, within, forms_within, proper_node, proper_nodes}
 use Rattle.network.specs.declared.wire.Step.{Step}
-use Rattle.network.specs.declared.wire.Step.TheVariants.{Input, Xor, And, Inv}
+use Rattle.network.specs.declared.wire.Gate.TheVariants.{Xor, And, Inv}
+use Rattle.network.specs.declared.wire.Step.TheVariants.{Input, Gate}
 
 -- the ways of an AND
 pub and_cases : (P : Option Shape → Type 0) (f g : Shape)
@@ -119,6 +120,6 @@ module _ (n : ℕ) (b : Body) (h : Proper n b) where
 
   pub proper_add : (s : Step) → fits n (length b.wires) s ≡ true → Proper n (add n b s)
   proper_add Input e = proper_wire Input _ (within_element _ (length b.wires) (omega (arith, ltb-true (length b.wires) n e)))
-  proper_add (Xor i j) e = proper_wire (Xor i j) _ (within_xor _ (form_at b i) (form_at b j) (form_within n b h i) (form_within n b h j))
-  proper_add (And i j) e = proper_and (And i j) i j
-  proper_add (Inv i) e = proper_wire (Inv i) _ (form_within n b h i)
+  proper_add (Gate (Xor i j)) e = proper_wire (Gate (Xor i j)) _ (within_xor _ (form_at b i) (form_at b j) (form_within n b h i) (form_within n b h j))
+  proper_add (Gate (And i j)) e = proper_and (Gate (And i j)) i j
+  proper_add (Gate (Inv i)) e = proper_wire (Gate (Inv i)) _ (form_within n b h i)

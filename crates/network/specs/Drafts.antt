@@ -3,7 +3,8 @@ use Rattle.std.specs.Prelude.{◌≡◌, ℕ, ◌<◌, Bool, true, false, cond, 
 use Rattle.network.specs.Wires.{Body, Net, body_of, add, grown, no_wires, fits, form_at, and_form, wire_count, node_count, output_count}
 use Rattle.refusals.specs.Drafts.{number}
 use Rattle.network.specs.declared.wire.Step.{Step}
-use Rattle.network.specs.declared.wire.Step.TheVariants.{Input, Xor, And, Inv}
+use Rattle.network.specs.declared.wire.Gate.TheVariants.{Xor, And, Inv}
+use Rattle.network.specs.declared.wire.Step.TheVariants.{Input, Gate}
 use Rattle.refusals.specs.declared.draft.DraftRefusal.{DraftRefusal}
 use Rattle.refusals.specs.declared.draft.DraftRefusal.TheVariants.{NoOutput, OutOfMemory}
 use Rattle.network.specs.declared.draft.Draft.{Draft}
@@ -25,9 +26,9 @@ Opened n (Err e) = opening n ≡ number e
 
 abbrev pub node_due : Body → Step → Bool
 node_due b Input = false
-node_due b (Xor i j) = false
-node_due b (And i j) = not (is_some (and_form (form_at b i) (form_at b j)))
-node_due b (Inv i) = false
+node_due b (Gate (Xor i j)) = false
+node_due b (Gate (And i j)) = not (is_some (and_form (form_at b i) (form_at b j)))
+node_due b (Gate (Inv i)) = false
 
 -- the first question of adding a step that is answered no, or 0: under 1,024 wires, wires exist, under 192 nodes where one is due?
 abbrev pub adding : Net → Step → ℕ
@@ -43,10 +44,6 @@ with_step s g = record { inputs = s.inputs; body = add s.inputs s.body g; output
 pub record Passed (s : Net) (g : Step) : Type 0 where
   pub room : wire_count s < 1024
   pub reads : fits s.inputs (wire_count s) g ≡ true
-
-abbrev pub Admitted : Net → Step → Result (Unit {0}) DraftRefusal → Type 0
-Admitted s g (Ok u) = Passed s g
-Admitted s g (Err e) = adding s g ≡ number e
 
 -- a step that nothing refuses, unless memory is out
 abbrev pub Appended : Net → Step → Result ℕ DraftRefusal → Net → Type 0

@@ -5,7 +5,8 @@ use Rattle.form.specs.Shapes.{Shape}
 use Rattle.form.specs.Values.{value}
 use Rattle.network.specs.Wires.{Net, NodeShape, form_at, node_at, output_form, wire_count, node_count, output_count}
 use Rattle.network.specs.declared.wire.Step.{Step}
-use Rattle.network.specs.declared.wire.Step.TheVariants.{Input, Xor, And, Inv}
+use Rattle.network.specs.declared.wire.Gate.TheVariants.{Xor, And, Inv}
+use Rattle.network.specs.declared.wire.Step.TheVariants.{Input, Gate}
 
 -- how each wire comes to be: the Boolean chain
 abbrev pub steps : Net → List Step
@@ -20,9 +21,9 @@ module _ {V : Type 0} (R : BooleanRing V) (x : ℕ → V) where
   -- the value of one more wire, after wires with the values vs
   abbrev pub step_value : List V → Step → V
   step_value vs Input = x (length vs)
-  step_value vs (Xor i j) = R.sum (slice_index_or vs i R.zero) (slice_index_or vs j R.zero)
-  step_value vs (And i j) = R.product (slice_index_or vs i R.zero) (slice_index_or vs j R.zero)
-  step_value vs (Inv i) = R.sum R.one (slice_index_or vs i R.zero)
+  step_value vs (Gate (Xor i j)) = R.sum (slice_index_or vs i R.zero) (slice_index_or vs j R.zero)
+  step_value vs (Gate (And i j)) = R.product (slice_index_or vs i R.zero) (slice_index_or vs j R.zero)
+  step_value vs (Gate (Inv i)) = R.sum R.one (slice_index_or vs i R.zero)
 
   -- the chain, wire by wire
   abbrev pub chain : List V → List Step → List V

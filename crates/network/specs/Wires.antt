@@ -4,7 +4,8 @@ use Rattle.values.specs.Bits.{xor}
 use Rattle.form.specs.Sets.{ascending, all_below, is_empty, same_set}
 use Rattle.form.specs.Shapes.{Shape, shape, zero_form, element_form, xor_form, inverted_form}
 use Rattle.network.specs.declared.wire.Step.{Step}
-use Rattle.network.specs.declared.wire.Step.TheVariants.{Input, Xor, And, Inv}
+use Rattle.network.specs.declared.wire.Gate.TheVariants.{Xor, And, Inv}
+use Rattle.network.specs.declared.wire.Step.TheVariants.{Input, Gate}
 use Rattle.network.specs.declared.wire.Wire.{Wire}
 use Rattle.network.specs.declared.wire.Node.{Node}
 
@@ -74,10 +75,6 @@ node_at s i = slice_index_or s.body.nodes i no_node
 abbrev pub output_form : Net → ℕ → Shape
 output_form s j = form_at s.body (slice_index s.outputs j)
 
--- the node over wires i and j
-abbrev pub node_over : Body → ℕ → ℕ → NodeShape
-node_over b i j = record { first = form_at b i; second = form_at b j }
-
 -- the form of an AND of two forms, or none where it takes a node
 abbrev pub and_form : Shape → Shape → Option Shape
 and_form f g =
@@ -99,9 +96,9 @@ add_and n b s f g None = with_wire (with_node b f g) s (element_form (n + length
 -- one wire more, of a network with n inputs
 abbrev pub add : ℕ → Body → Step → Body
 add n b Input = with_wire b Input (element_form (length b.wires))
-add n b (Xor i j) = with_wire b (Xor i j) (xor_form (form_at b i) (form_at b j))
-add n b (And i j) = add_and n b (And i j) (form_at b i) (form_at b j) (and_form (form_at b i) (form_at b j))
-add n b (Inv i) = with_wire b (Inv i) (inverted_form (form_at b i))
+add n b (Gate (Xor i j)) = with_wire b (Gate (Xor i j)) (xor_form (form_at b i) (form_at b j))
+add n b (Gate (And i j)) = add_and n b (Gate (And i j)) (form_at b i) (form_at b j) (and_form (form_at b i) (form_at b j))
+add n b (Gate (Inv i)) = with_wire b (Gate (Inv i)) (inverted_form (form_at b i))
 
 -- a wire more for each step, in order
 abbrev pub grown : ℕ → Body → List Step → Body
@@ -111,9 +108,9 @@ grown n b (s ∷ ss) = grown n (add n b s) ss
 -- a step may stand at wire p of a network with n inputs: a gate reads earlier wires
 abbrev pub fits : ℕ → ℕ → Step → Bool
 fits n p Input = nat_lt p n
-fits n p (Xor i j) = nat_lt i p && nat_lt j p
-fits n p (And i j) = nat_lt i p && nat_lt j p
-fits n p (Inv i) = nat_lt i p
+fits n p (Gate (Xor i j)) = nat_lt i p && nat_lt j p
+fits n p (Gate (And i j)) = nat_lt i p && nat_lt j p
+fits n p (Gate (Inv i)) = nat_lt i p
 
 -- the steps may stand from wire p on
 abbrev pub valid : ℕ → ℕ → List Step → Bool

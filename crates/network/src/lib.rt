@@ -8,4 +8,4 @@ mod wire;
 
 pub use draft::Draft;
 pub use network::Network;
-pub use wire::{Node, Step, Wire};
+pub use wire::{Gate, Node, Step, Wire};

@@ -1,12 +1,18 @@
 use form::Form;
 
-// How a wire comes to be: an input, or a gate over earlier wires.
-#[derive(Clone, Copy)]
-pub enum Step {
-    Input,
+// A gate over earlier wires, which are named by their numbers, as callers and texts name them.
+#[derive(Clone, Copy, Debug, PartialEq, Eq)]
+pub enum Gate {
     Xor(u16, u16),
     And(u16, u16),
     Inv(u16),
+}
+
+// How a wire comes to be.
+#[derive(Clone, Copy, Debug, PartialEq, Eq)]
+pub enum Step {
+    Input,
+    Gate(Gate),
 }
 
 // A wire: its step, and the linear form that has its value.

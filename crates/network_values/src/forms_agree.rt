@@ -2,7 +2,7 @@
 use crate::samples::sealed;
 use evaluation::evaluate_word;
 use form::Form;
-use network::{Draft, Network};
+use network::{Draft, Gate, Network};
 use pseudorandom::Generator;
 use refusals::DraftRefusal;
 use std::alloc::Global;
@@ -14,14 +14,15 @@ const INPUTS: u16 = 8;
 
 const GATES: u16 = 60;
 
+// A random gate that reads any wires so far. A throw of the die picks the gate.
 fn add_gate(draft: &mut Draft, numbers: &mut Generator) -> Result<u16, DraftRefusal> {
     let a = numbers.below(draft.wires());
     let b = numbers.below(draft.wires());
-    match numbers.below(3) {
-        0 => draft.xor(a, b),
-        1 => draft.and(a, b),
-        _ => draft.inv(a),
-    }
+    draft.add(match numbers.below(3) {
+        0 => Gate::Xor(a, b),
+        1 => Gate::And(a, b),
+        _ => Gate::Inv(a),
+    })
 }
 
 // A network of random gates whose outputs are its last eight wires.
@@ -38,41 +39,30 @@ fn random(heap: Global, numbers: &mut Generator) -> Result<Network, DraftRefusal
 
 // The XOR of a form's elements and its constant, where the basis has these values.
 fn form_value(form: &Form, basis: &[bool]) -> bool {
-    let mut value = form.constant();
-    for e in form.elements() {
-        value ^= basis.get(*e as usize) == Some(&true);
-    }
-    value
-}
-
-fn node_value(network: &Network, i: u16, basis: &[bool]) -> bool {
-    match network.node(i) {
-        Some(node) => form_value(&node.first, basis) & form_value(&node.second, basis),
-        None => false,
-    }
+    form.elements().iter().fold(form.constant(), |value, e| {
+        value ^ (basis.get(usize::from(*e)) == Some(&true))
+    })
 }
 
 // The values of the inputs, bit by bit, and then of the nodes.
 fn basis_at(heap: Global, network: &Network, word: u64) -> Result<Vec<bool>, DraftRefusal> {
-    let mut basis = Vec::new(heap);
-    for i in 0..INPUTS {
-        basis.push((word >> u32::from(i)) % 2 == 1)?;
-    }
-    for i in 0..network.nodes() {
-        let value = node_value(network, i, basis.as_slice());
-        basis.push(value)?;
+    let mut basis: Vec<bool> = (0..INPUTS)
+        .map(|i| (word >> u32::from(i)) % 2 == 1)
+        .collect(heap)?;
+    for node in (0..network.nodes()).filter_map(|i| network.node(i)) {
+        let first = form_value(&node.first, &basis);
+        let second = form_value(&node.second, &basis);
+        basis.push(first & second)?;
     }
     Ok(basis)
 }
 
+// Bit j is the value of output j.
 fn outputs_at(network: &Network, basis: &[bool]) -> u64 {
-    let mut outputs = 0;
-    for j in 0..INPUTS {
-        if let Some(form) = network.output(j) {
-            outputs |= u64::from(form_value(form, basis)) << u32::from(j);
-        }
-    }
-    outputs
+    (0..INPUTS).rev().filter_map(|j| network.output(j)).fold(
+        0,
+        |outputs, form| outputs << 1 | u64::from(form_value(form, basis)),
+    )
 }
 
 #[test]
@@ -84,7 +74,7 @@ fn forms_have_the_values_of_wires(rt: HostRuntime) -> Result<(), Fail> {
         let basis = basis_at(rt.alloc(), &network, word)?;
         assert_eq!(rt;
             evaluate_word(&network, rt.alloc(), word)?,
-            outputs_at(&network, basis.as_slice())
+            outputs_at(&network, &basis)
         );
     }
     Ok(())

@@ -4,10 +4,7 @@ use refusals::DraftRefusal;
 use std::alloc::Global;
 
 pub(crate) fn sealed(draft: Draft) -> Result<Network, DraftRefusal> {
-    match draft.seal() {
-        Ok(network) => Ok(network),
-        Err(_) => Err(DraftRefusal::NoOutput),
-    }
+    draft.seal().map_err(|_| DraftRefusal::NoOutput)
 }
 
 // (x0 XOR x1) AND x2

@@ -9,11 +9,8 @@ const TRUTH: [u64; 8] = [0, 0, 0, 0, 0, 1, 1, 0];
 #[test]
 fn a_network_has_its_truth_table(rt: HostRuntime) -> Result<(), Fail> {
     let network = xor_and(rt.alloc())?;
-    for (word, expected) in TRUTH.iter().enumerate() {
-        assert_eq!(rt;
-            evaluate_word(&network, rt.alloc(), word as u64)?,
-            *expected
-        );
+    for (word, expected) in (0..8).zip(TRUTH) {
+        assert_eq!(rt; evaluate_word(&network, rt.alloc(), word)?, expected);
     }
     Ok(())
 }
@@ -23,7 +20,7 @@ fn a_network_has_its_polynomial(rt: HostRuntime) -> Result<(), Fail> {
     let network = xor_and(rt.alloc())?;
     let variables = [Polynomial::new(2), Polynomial::new(4), Polynomial::new(16)];
     let outputs = evaluate(&network, rt.alloc(), &variables)?;
-    assert!(rt; outputs.len() == 1);
+    assert_eq!(rt; outputs.len(), 1);
     assert_eq!(rt; outputs[0].coefficients(), 96);
     Ok(())
 }
@@ -57,8 +54,7 @@ fn missing_inputs_count_as_zero(rt: HostRuntime) -> Result<(), Fail> {
     for (shown, n, inputs, expected) in &GIVEN {
         let network = last_inverted(rt.alloc(), *n)?;
         let outputs = evaluate(&network, rt.alloc(), inputs)?;
-        assert!(rt; outputs.len() == 1);
-        assert_eq!(rt; outputs[0], *expected, "{}", shown);
+        assert_eq!(rt; outputs.as_slice(), [*expected].as_slice(), "{shown}");
     }
     Ok(())
 }
@@ -95,8 +91,7 @@ fn bit_i_of_a_word_is_input_i_and_output_i(rt: HostRuntime) -> Result<(), Fail> 
         assert_eq!(rt;
             evaluate_word(&network, rt.alloc(), *word)?,
             *expected,
-            "{}",
-            shown
+            "{shown}"
         );
     }
     Ok(())

@@ -4,11 +4,12 @@
 use bristol::read_network;
 use network::Network;
 use record::Record;
+use refusals::{DraftRefusal, MakeRefusal, Refusal, SessionRefusal, TextRefusal};
 use session::{Ended, compile};
 use sinks::Sink;
 use std::alloc::{AllocError, Global};
-use std::io;
-use std::io::Read;
+use std::fmt::Write;
+use std::io::{self, Read};
 use std::process::ExitCode;
 
 // The most bytes that a text may have.
@@ -17,11 +18,46 @@ const TEXT_BYTES: u64 = 65_536;
 // The bytes of the record that a circuit is compiled into.
 const RECORD_BYTES: usize = 65_536;
 
-// What a text is answered: the circuit's listing, or the number of a refusal.
+// Why there is no circuit: the text is refused, or reading fails or memory is wanting.
 #[derive(Drop)]
-enum Answer {
-    Circuit(String),
-    Refused(u8),
+enum Failure {
+    Reading(TextRefusal),
+    Making(MakeRefusal),
+    Compiling(SessionRefusal),
+    Io(io::Error),
+}
+
+impl From<io::Error> for Failure {
+    fn from(error: io::Error) -> Failure {
+        Failure::Io(error)
+    }
+}
+
+impl From<AllocError> for Failure {
+    fn from(error: AllocError) -> Failure {
+        Failure::Io(io::Error::from(error))
+    }
+}
+
+impl From<TextRefusal> for Failure {
+    fn from(refusal: TextRefusal) -> Failure {
+        match refusal {
+            TextRefusal::Draft(DraftRefusal::OutOfMemory) => Failure::from(AllocError),
+            _ => Failure::Reading(refusal),
+        }
+    }
+}
+
+impl From<MakeRefusal> for Failure {
+    fn from(refusal: MakeRefusal) -> Failure {
+        Failure::Making(refusal)
+    }
+}
+
+impl From<SessionRefusal> for Failure {
+    fn from(refusal: SessionRefusal) -> Failure {
+        Failure::Compiling(refusal)
+    }
 }
 
 // At most one byte more than a text may have, so that a longer one is known to be too long.
@@ -41,55 +77,44 @@ fn listing(heap: Global, network: &Network, record: &Record) -> Result<String, A
     let mut out = format!(in heap;
         "lines {lines} inputs {inputs} outputs {outputs} gates {gates} t {t}\n"
     )?;
-    for k in 0..gates {
-        if let Some(gate) = record.gate(k) {
-            let line = format!(in heap; "{gate}\n")?;
-            out.push_str(line.as_str())?;
-        }
+    for gate in (0..gates).filter_map(|k| record.gate(k)) {
+        writeln!(out, "{gate}")?;
     }
     Ok(out)
 }
 
-// The network compiled on as many lines as keep every node at once.
-fn compiled(heap: Global, network: &Network) -> Result<Answer, AllocError> {
+// The listing of the network's circuit, compiled on as many lines as keep every node at once.
+fn compiled(heap: Global, network: &Network) -> Result<String, Failure> {
     let mut buffer = vec![in heap; 0u8; RECORD_BYTES]?;
     let lines = network.inputs() + network.outputs() + network.nodes();
-    let record = match Record::new(buffer.as_mut_slice(), lines) {
-        Ok(record) => record,
-        Err(refusal) => return Ok(Answer::Refused(refusal.number())),
-    };
+    let record = Record::new(&mut buffer, lines)?;
     let Ended { sink, answer } = compile(network, record);
-    match answer {
-        Ok(()) => Ok(Answer::Circuit(listing(heap, network, &sink)?)),
-        Err(refusal) => Ok(Answer::Refused(refusal.number())),
-    }
+    answer?;
+    Ok(listing(heap, network, &sink)?)
 }
 
-fn answer_to(heap: Global, text: &[u8]) -> Result<Answer, AllocError> {
-    match read_network(heap, text) {
-        Ok(network) => compiled(heap, &network),
-        Err(refusal) => match refusal.number() {
-            // no question's number: want of memory
-            0 => Err(AllocError),
-            number => Ok(Answer::Refused(number)),
-        },
-    }
-}
-
-fn run(rt: &HostRuntime) -> io::Result<Answer> {
+fn run(rt: &HostRuntime) -> Result<String, Failure> {
     let text = read_text(rt)?;
-    Ok(answer_to(rt.alloc(), text.as_slice())?)
+    let network = read_network(rt.alloc(), &text)?;
+    compiled(rt.alloc(), &network)
+}
+
+// Prints the number of what refuses the text.
+fn refused(rt: &HostRuntime, refusal: impl Refusal) -> io::Result<ExitCode> {
+    let number = refusal.number();
+    println!(rt; "refused {number}")?;
+    Ok(ExitCode::FAILURE)
 }
 
 fn main(rt: HostRuntime) -> io::Result<ExitCode> {
-    match run(&rt)? {
-        Answer::Circuit(listing) => {
+    match run(&rt) {
+        Ok(listing) => {
             rt.print(listing)?;
             Ok(ExitCode::SUCCESS)
         }
-        Answer::Refused(number) => {
-            println!(rt; "refused {number}")?;
-            Ok(ExitCode::FAILURE)
-        }
+        Err(Failure::Reading(refusal)) => refused(&rt, refusal),
+        Err(Failure::Making(refusal)) => refused(&rt, refusal),
+        Err(Failure::Compiling(refusal)) => refused(&rt, refusal),
+        Err(Failure::Io(error)) => Err(error),
     }
 }

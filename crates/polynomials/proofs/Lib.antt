@@ -1,4 +1,5 @@
 mod Numbers
+mod Steps
 mod StepLaws
 mod Masks
 mod Products

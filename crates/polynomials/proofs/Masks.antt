@@ -1,13 +1,13 @@
 -- A masked shift adds, to the coefficient of each set with a variable, that of the set without it.
 use Rattle.std.proofs.Common.{◌≡◌, ℕ, zero, suc, ◌+◌, ◌*◌, ◌%◌, ◌^◌, Bool, true, false, cond, ◌&&◌, eqb, sym, refl, ap, ◌∙◌, arith}
 use mathlib.Core.Path.{fun_ext}
-use mathlib.Core.Bool.{and-false, false≢true}
+use mathlib.Core.Bool.{and-false, and-true, false≢true}
 use lib.Bits.{bit_and, bit_xor}
 use Rattle.std.proofs.lemmas.Bool.{eqb-true}
-use Rattle.values.specs.Bits.{xor, and_one}
+use Rattle.values.specs.Bits.{xor}
 use Rattle.values.specs.Words.{bit}
 use Rattle.polynomials.specs.Polynomials.{VariableSet, Coefficients, number_of, coefficients, same_coefficients}
-use Rattle.polynomials.specs.Steps.{contains, without, add_without}
+use Rattle.polynomials.proofs.Steps.{contains, without, add_without}
 use Rattle.polynomials.specs.PolynomialLaws.{same_yes}
 use Rattle.values.proofs.WordLaws.{bit_of_xor, bit_of_and, bit_left, bit_below}
 use Rattle.polynomials.proofs.Numbers.{number_lt}
@@ -35,7 +35,7 @@ module _ (v mask a : ℕ) (sets : same_coefficients 6 (coefficients 6 mask) (con
   masked_bit s false p e =
       ap (λ (x : Bool). bit shifted (number_of 6 s) && x) e ∙ and-false (bit shifted (number_of 6 s))
   masked_bit s true p e =
-      ap (λ (x : Bool). bit shifted (number_of 6 s) && x) e ∙ and_one (bit shifted (number_of 6 s))
+      ap (λ (x : Bool). bit shifted (number_of 6 s) && x) e ∙ and-true (bit shifted (number_of 6 s))
       ∙ bit_below (a * 2 ^ (2 ^ v)) 64 (number_of 6 s) (number_lt 6 s)
       ∙ ap (bit (a * 2 ^ (2 ^ v))) (number_with 6 v s p) ∙ bit_left a (2 ^ v) (number_of 6 (without 6 v s))
 

@@ -1,3 +1,2 @@
 pub mod Polynomials
-pub mod Steps
 pub mod PolynomialLaws

@@ -4,11 +4,11 @@
 use Rattle.std.specs.Prelude.{◌≡◌, ℕ, zero, suc, Bool, true, false, ◌&&◌, refl}
 use Rattle.std.proofs.Common.{sym, ap, ap₂, ◌∙◌}
 use Rattle.std.proofs.Math.Path.{fun_ext}
-use Rattle.std.proofs.Math.Bool.{and-false}
+use Rattle.std.proofs.Math.Bool.{and_assoc, and_comm, and-false, and-true, and_self}
 use Rattle.std.proofs.lemmas.Bool.{false≢true}
 use Rattle.values.specs.Rings.{BooleanRing}
 use Rattle.values.proofs.RingLaws.{sum_twice, sum_pairs}
-use Rattle.values.specs.Bits.{xor, equal, bits, xor_assoc, xor_comm, xor_zero, xor_self, and_assoc, and_comm, and_one, and_self, and_xor, equal_yes, equal_self}
+use Rattle.values.specs.Bits.{xor, equal, bits, xor_assoc, xor_comm, xor_zero, xor_self, and_xor, equal_yes, equal_self}
 use Rattle.polynomials.specs.Polynomials.{VariableSet, is_subset, same_set, union, sum_over, every, Coefficients, zero_polynomial, one_polynomial, plus, times, same_coefficients, subset_sums}
 
 -- the parts of a polynomial without and with the last variable
@@ -137,7 +137,7 @@ times_one k a =
     known_by_sums k (times k a (one_polynomial k)) a (λ (p : VariableSet k).
     sums_times k a (one_polynomial k) p
     ∙ ap (λ (x : Bool). subset_sums k a p && x) (sums_one k p)
-    ∙ and_one (subset_sums k a p))
+    ∙ and-true (subset_sums k a p))
 
 pub times_self : (k : ℕ) (a : Coefficients k) → times k a a ≡ a
 times_self k a =

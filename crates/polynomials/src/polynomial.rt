@@ -2,7 +2,7 @@ ghost use Rattle.std.specs.Prelude.{◌≡◌};
 ghost use Rattle.polynomials.specs.PolynomialLaws.{polynomials};
 ghost use Rattle.polynomials.specs.Polynomials.{Coefficients, coefficients as coefficients_of};
 
-use crate::words;
+use crate::words::subset_sums;
 use values::Algebra;
 
 // A polynomial in six variables: bit s is the coefficient of the product of the variables in the binary set s.
@@ -33,22 +33,26 @@ impl Algebra for Polynomial {
     ghost meaning = { λ p. coefficients_of 6 p.coefficients };
 
     fn zero() -> Polynomial {
-        Polynomial::new(words::constant(false))
+        Polynomial::new(0)
     }
 
     fn one() -> Polynomial {
-        Polynomial::new(words::constant(true))
+        Polynomial::new(1)
     }
 
     fn sum(self, other: Polynomial) -> Polynomial {
-        Polynomial::new(words::sum(self.coefficients, other.coefficients))
+        Polynomial::new(self.coefficients ^ other.coefficients)
     }
 
+    // Subset sums are the values at the points, so those of a product are the products of the factors' own; and the
+    // subset sums of subset sums are the coefficients.
     fn product(self, other: Polynomial) -> Polynomial {
-        Polynomial::new(words::product(self.coefficients, other.coefficients))
+        let values = subset_sums(self.coefficients) & subset_sums(other.coefficients);
+        let coefficients = subset_sums(values);
+        Polynomial::new(coefficients)
     }
 
     fn same(self, other: Polynomial) -> bool {
-        words::same(self.coefficients, other.coefficients)
+        self == other
     }
 }

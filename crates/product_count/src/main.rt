@@ -2,10 +2,10 @@
 #![tactic(auto)]
 
 use polynomials::Polynomial;
-use std::io::Error;
+use std::io;
 use values::Algebra;
 
-fn main(rt: HostRuntime) -> Result<(), Error> {
+fn main(rt: HostRuntime) -> io::Result<()> {
     let mut product = Polynomial::new(0x0123_4567_89ab_cdef);
     let mut factor: u64 = 0x9e37_79b9_7f4a_7c15;
     for _ in 0..1_000_000 {
@@ -14,6 +14,5 @@ fn main(rt: HostRuntime) -> Result<(), Error> {
             .product(Polynomial::new(factor))
             .sum(Polynomial::new(factor));
     }
-    println!(rt; "{}", product.coefficients())?;
-    Ok(())
+    println!(rt; "{}", product.coefficients())
 }

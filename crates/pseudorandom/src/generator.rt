@@ -26,6 +26,7 @@ impl Generator {
         if n == 0 {
             return 0;
         }
+        // below n, so it fits
         ((self.state >> 33) % u64::from(n)) as u16
     }
 }

@@ -43,7 +43,7 @@ kind_bytes k a b t g e = grind (arith, nat_tests)
 
 pub cond_some : (b : Bool) (o : Option Gate) (g : Gate) → cond b o None ≡ Some g → (b ≡ true) × (o ≡ Some g)
 cond_some true o g e = (refl, e)
-cond_some false o g e = absurd (let z : ◌≡◌ {A = ℕ} 0 1 = cc in omega arith)
+cond_some false o g e = cc
 
 -- what has the form of a gate's bytes is that gate's bytes
 pub parsed_bytes : (bs : List ℕ) (g : Gate) → Bytes bs → parsed bs ≡ Some g → bs ≡ encoded g

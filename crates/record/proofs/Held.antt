@@ -1,8 +1,8 @@
 -- The gate at a place of a record, from its eight bytes.
-use Rattle.std.proofs.Common.{◌≡◌, ℕ, zero, suc, ◌<◌, Bool, true, false, cond, ◌&&◌, eqb, List, [], ◌∷◌, length, get_or, Some, None, Option, sym, refl, ap, ◌∙◌, ⊎_elim, arith}
+use Rattle.std.proofs.Common.{◌≡◌, ℕ, zero, suc, ◌<◌, true, ◌&&◌, eqb, List, [], ◌∷◌, length, get_or, Some, None, Option, sym, refl, ap, ◌∙◌, ⊎_elim, arith}
 use Rattle.std.proofs.lemmas.List.{get_or_push, get_or_append_left}
 use Rattle.std.proofs.lemmas.Option.{slice_get-get_or}
-use Rattle.std.proofs.lemmas.Bool.{and_parts, cases_order}
+use Rattle.std.proofs.lemmas.Bool.{and_parts, cases_lt}
 use Rattle.std.proofs.lemmas.Bool.Decides.{nat_tests}
 use Rattle.std.specs.List.{slice_get}
 use Rattle.circuit.specs.declared.Gate.{Gate}
@@ -10,21 +10,18 @@ use Rattle.circuit.specs.declared.Gate.TheVariants.{Not}
 use Rattle.record.specs.Bytes.{parsed, parsed_kind, decoded, gate_of, block, gates_of, word}
 use Rattle.record.specs.Fitting.{fits, all_fit}
 use Rattle.record.specs.Blocks.{length_gates}
+use Rattle.record.proofs.Cells.{cond_some}
 
 kind_gate : (k a b t : ℕ) (g : Gate) → parsed_kind k a b t ≡ Some g → gate_of k a b t ≡ g
 kind_gate k a b t g e = grind (arith, nat_tests)
 
-cond_some : (b : Bool) (o : Option Gate) (g : Gate) → cond b o None ≡ Some g → o ≡ Some g
-cond_some true o g e = e
-cond_some false o g e = absurd (let z : ◌≡◌ {A = ℕ} 0 1 = cc in omega arith)
-
 parsed_gate : (bs : List ℕ) (g : Gate) → parsed bs ≡ Some g → decoded bs ≡ g
 parsed_gate bs g e =
     kind_gate (get_or bs 0 0) (word bs 2) (word bs 4) (word bs 6) g
-    (cond_some (eqb (length bs) 8 && eqb (get_or bs 1 0) 0) (parsed_kind (get_or bs 0 0) (word bs 2) (word bs 4) (word bs 6)) g e)
+    (cond_some (eqb (length bs) 8 && eqb (get_or bs 1 0) 0) (parsed_kind (get_or bs 0 0) (word bs 2) (word bs 4) (word bs 6)) g e).1
 
 fits_some : (w : ℕ) (o : Option Gate) → fits w o ≡ true → (g : Gate) × (o ≡ Some g)
-fits_some w None e = absurd (let z : ◌≡◌ {A = ℕ} 0 1 = cc in omega arith)
+fits_some w None e = cc
 fits_some w (Some g) e = (g, refl)
 
 fits_parsed : (w : ℕ) (bs : List ℕ) → fits w (parsed bs) ≡ true → parsed bs ≡ Some (decoded bs)
@@ -34,20 +31,17 @@ fits_at : (w n k : ℕ) (bs : List ℕ) → k < n → all_fit w n bs ≡ true �
 fits_at w zero k bs h e = absurd (omega arith)
 fits_at w (suc n) k bs h e =
     let p = and_parts (all_fit w n bs) (fits w (parsed (block bs n))) e in
-    ⊎_elim
-    (λ q. ap (λ m. fits w (parsed (block bs m))) q ∙ p.1)
-    (λ o. ⊎_elim (λ l. fits_at w n k bs l p.0) (λ l. absurd (omega arith)) o)
-    (cases_order k n)
+    ⊎_elim (λ l. fits_at w n k bs l p.0) (λ l. let q : k ≡ n = omega arith in cc (q, p.1)) (cases_lt k n)
 
 gate_at : (n k : ℕ) (bs : List ℕ) → k < n → get_or (gates_of n bs) k (Not 0) ≡ decoded (block bs k)
 gate_at zero k bs h = absurd (omega arith)
 gate_at (suc n) k bs h =
+    let e = length_gates n bs in
+    let last = get_or_push (gates_of n bs) (decoded (block bs n)) (Not 0) n e in
     ⊎_elim
-    (λ q. get_or_push (gates_of n bs) (decoded (block bs n)) (Not 0) k (length_gates n bs ∙ sym q) ∙ ap (λ m. decoded (block bs m)) (sym q))
-    (λ o. ⊎_elim
-    (λ l. get_or_append_left (gates_of n bs) (decoded (block bs n) ∷ []) (Not 0) k (omega (arith, length_gates n bs)) ∙ gate_at n k bs l)
-    (λ l. absurd (omega arith)) o)
-    (cases_order k n)
+    (λ l. get_or_append_left (gates_of n bs) (decoded (block bs n) ∷ []) (Not 0) k (omega arith) ∙ gate_at n k bs l)
+    (λ l. let q : k ≡ n = omega arith in cc (q, last))
+    (cases_lt k n)
 
 -- the block at k of gates that fit is the gate at k
 pub held : (w n k : ℕ) (bs : List ℕ) → k < n → all_fit w n bs ≡ true → parsed (block bs k) ≡ slice_get (gates_of n bs) k

@@ -5,7 +5,6 @@ use borrow.Rule.Slice.PartMut.{put_mid}
 use Rattle.std.proofs.lemmas.List.{length-drop, take_rest, drop-drop, drop_all, append-nil, length_push, length-append, length-take-le, take-take, drop-take, take_at, drop_at}
 use Rattle.std.proofs.lemmas.Bool.{and_from}
 use Rattle.circuit.specs.declared.Gate.{Gate}
-use Rattle.circuit.specs.declared.Gate.TheVariants.{Not, Cnot, And, Unand}
 use Rattle.circuit.specs.Gates.{inside, apart}
 use Rattle.record.specs.Bytes.{encoded, encoded_all, decoded, block, gates_of, written, parsed}
 use Rattle.record.specs.Fitting.{all_fit, fits}
@@ -15,25 +14,16 @@ length_gates zero bs = refl
 length_gates (suc n) bs = length_push (gates_of n bs) (decoded (block bs n)) ∙ omega (arith, length_gates n bs)
 
 pub length_encoded : (g : Gate) → length (encoded g) ≡ 8
-length_encoded (Not t) = refl
-length_encoded (Cnot a t) = refl
-length_encoded (And a b t) = refl
-length_encoded (Unand a b t) = refl
+length_encoded g = grind arith
 
 joins : (t : ℕ) → t % 256 + 256 * (t / 256) ≡ t
 joins t = omega arith
 
 pub decoded_encoded : (g : Gate) → decoded (encoded g) ≡ g
-decoded_encoded (Not t) = ap Not (joins t)
-decoded_encoded (Cnot a t) = simp joins
-decoded_encoded (And a b t) = simp joins
-decoded_encoded (Unand a b t) = simp joins
+decoded_encoded g = grind (arith, joins)
 
 pub parsed_encoded : (g : Gate) → parsed (encoded g) ≡ Some g
-parsed_encoded (Not t) = simp joins
-parsed_encoded (Cnot a t) = simp joins
-parsed_encoded (And a b t) = simp joins
-parsed_encoded (Unand a b t) = simp joins
+parsed_encoded g = grind (arith, joins)
 
 -- bytes that agree up to m hold the same blocks there
 part_same : (k m : ℕ) (xs ys : List ℕ) → k + 8 ≤ m → take m xs ≡ take m ys → take 8 (drop k xs) ≡ take 8 (drop k ys)
@@ -106,3 +96,20 @@ fit_written w bs n g h f i a =
     = ap parsed (block_written bs (8 * n) (encoded g) h (length_encoded g)) ∙ parsed_encoded g in
     let r : fits w (parsed (block ys n)) ≡ true = ap (fits w) q ∙ and_from (inside g w) (apart g) i a in
     rw add-one (and_from (all_fit w n ys) (fits w (parsed (block ys n))) p r)
+
+-- ys is bs with xs written at the place of gate n
+pub record Placed (bs : List ℕ) (n : ℕ) (xs ys : List ℕ) : Type 0 where
+  pub bytes : ys ≡ written bs (8 * n) xs
+  pub size : length ys ≡ length bs
+  pub front : take (8 * n) ys ≡ take (8 * n) bs
+
+-- so it is after a callee wrote xs at the front of `&mut bs[8 * r..]`, where r is n
+pub placed : (bs out : List ℕ) (r n k : ℕ) (xs : List ℕ) → r ≡ n → 8 * n + k ≤ length bs → length xs ≡ k
+    → out ≡ xs ++ drop k (take (length bs - 8 * r) (drop (8 * r) bs)) → Placed bs n xs (put_mid (8 * r) (length bs - 8 * r) bs out)
+placed bs out r n k xs q h l e =
+    let w = part_written bs (8 * r) k xs out (omega arith) l e ∙ ap (λ m. written bs (8 * m) xs) q in
+    record {
+      bytes = w;
+      size = ap length w ∙ length_written bs (8 * n) xs (omega arith);
+      front = ap (take (8 * n)) w ∙ take_written bs (8 * n) xs (omega arith);
+    }

@@ -1,23 +1,24 @@
 // A gate's eight bytes, and the twelve that end a record.
 ghost use Rattle.std.specs.Prelude.{◌≡◌, ◌≤◌, ◌++◌, length, drop};
-ghost use Rattle.record.specs.Bytes.{eight, encoded, parsed, trailer};
+ghost use Rattle.record.specs.Bytes.{encoded, parsed, trailer};
 
 use circuit::Gate;
 
-// A kind, a zero byte and three numbers, low byte first.
-fn eight_bytes(kind: u8, a: u16, b: u16, t: u16) -> [u8; 8]
-    ensures are_the_eight { result ≡ eight kind a b t }
+// A gate's kind, a zero byte and three numbers, low byte first; a number that it does not use is 0. Kinds are numbers,
+// since a kind is a byte of the record's format. A function, since `From` is not to be had between two foreign types.
+fn eight_bytes(g: Gate) -> [u8; 8]
+    ensures are_the_gates { result ≡ encoded g }
 {
-    [
-        kind,
-        0,
-        (a % 256) as u8,
-        (a / 256) as u8,
-        (b % 256) as u8,
-        (b / 256) as u8,
-        (t % 256) as u8,
-        (t / 256) as u8,
-    ]
+    let (kind, a, b, t) = match g {
+        Gate::Not { t } => (0, 0, 0, t),
+        Gate::Cnot { a, t } => (1, a, 0, t),
+        Gate::And { a, b, t } => (2, a, b, t),
+        Gate::Unand { a, b, t } => (3, a, b, t),
+    };
+    let [a0, a1] = a.to_le_bytes();
+    let [b0, b1] = b.to_le_bytes();
+    let [t0, t1] = t.to_le_bytes();
+    [kind, 0, a0, a1, b0, b1, t0, t1]
 }
 
 // Writes a gate at the front of the free part of a buffer.
@@ -25,33 +26,24 @@ pub(crate) fn encode(out: &mut [u8], g: Gate)
     requires has_room { 8 ≤ length out.old }
     ensures writes_the_gate { out.new ≡ encoded g ++ drop 8 out.old }
 {
-    let bytes = match g {
-        Gate::Not { t } => eight_bytes(0, 0, 0, t),
-        Gate::Cnot { a, t } => eight_bytes(1, a, 0, t),
-        Gate::And { a, b, t } => eight_bytes(2, a, b, t),
-        Gate::Unand { a, b, t } => eight_bytes(3, a, b, t),
-    };
-    out[0..8].copy_from_slice(&bytes);
+    out[..8].copy_from_slice(&eight_bytes(g));
 }
 
-// The gate that eight bytes stand for, where they have the form that `encode` writes.
+// The gate that eight bytes stand for, where they have the form that `encode` writes. Its kind is a byte of the format.
 pub(crate) fn decode(bytes: &[u8]) -> Option<Gate>
     ensures is_parsed { result ≡ parsed bytes.now }
 {
-    let [kind, zero, a0, a1, b0, b1, t0, t1] = bytes else {
+    let &[kind, 0, a0, a1, b0, b1, t0, t1] = bytes else {
         return None;
     };
-    if *zero != 0 {
-        return None;
-    }
-    let a = *a0 as u16 + 256 * *a1 as u16;
-    let b = *b0 as u16 + 256 * *b1 as u16;
-    let t = *t0 as u16 + 256 * *t1 as u16;
-    match *kind {
-        0 if a == 0 && b == 0 => Some(Gate::Not { t }),
-        1 if b == 0 => Some(Gate::Cnot { a, t }),
-        2 => Some(Gate::And { a, b, t }),
-        3 => Some(Gate::Unand { a, b, t }),
+    let a = u16::from_le_bytes([a0, a1]);
+    let b = u16::from_le_bytes([b0, b1]);
+    let t = u16::from_le_bytes([t0, t1]);
+    match (kind, a, b) {
+        (0, 0, 0) => Some(Gate::Not { t }),
+        (1, a, 0) => Some(Gate::Cnot { a, t }),
+        (2, a, b) => Some(Gate::And { a, b, t }),
+        (3, a, b) => Some(Gate::Unand { a, b, t }),
         _ => None,
     }
 }
@@ -65,5 +57,5 @@ pub(crate) fn write_trailer(out: &mut [u8], distance: u32, width: u16, t_count: 
     let [w0, w1] = width.to_le_bytes();
     let [t0, t1, t2, t3] = t_count.to_le_bytes();
     let bytes = [d0, d1, d2, d3, w0, w1, 0, 0, t0, t1, t2, t3];
-    out[0..12].copy_from_slice(&bytes);
+    out[..12].copy_from_slice(&bytes);
 }

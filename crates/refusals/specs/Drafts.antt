@@ -1,5 +1,6 @@
 -- The number of each refusal of a draft's calls.
-use Rattle.std.specs.Prelude.{ℕ}
+use Rattle.std.specs.Prelude.{ℕ, ◌≡◌}
+use Rattle.std.proofs.Common.{arith}
 use Rattle.refusals.specs.declared.draft.DraftRefusal.{DraftRefusal}
 use Rattle.refusals.specs.declared.draft.DraftRefusal.TheVariants.{Inputs, WireLimit, NoSuchWire, NodeLimit, OutputLimit, NoOutput, OutOfMemory}
 
@@ -12,3 +13,7 @@ number NodeLimit = 4
 number OutputLimit = 5
 number NoOutput = 6
 number OutOfMemory = 0
+
+-- no two refusals have the same number
+pub number_tells : (x y : DraftRefusal) → number x ≡ number y → x ≡ y
+number_tells x y same = grind arith

@@ -1,7 +1,8 @@
 ghost use Rattle.std.specs.Prelude.{◌≡◌};
-ghost use Rattle.refusals.specs.Drafts.{number};
+ghost use Rattle.refusals.specs.Drafts.{number, number_tells};
 ghost use Rattle.refusals.specs.declared.draft.DraftRefusal.TheVariants.{OutOfMemory};
 
+use crate::refusal::Refusal;
 use std::alloc::{AllocError, AllocFailed};
 
 // Why a call on a draft is refused.
@@ -23,11 +24,12 @@ pub enum DraftRefusal {
     OutOfMemory,
 }
 
-impl DraftRefusal {
-    // The number of the question that was answered no; 0 for want of memory.
-    pub fn number(self) -> u8
-        ensures is_its_number { result ≡ number self }
-    {
+impl Refusal for DraftRefusal {
+    ghost numbered = { number };
+
+    ghost numbers_differ = { number_tells };
+
+    fn number(self) -> u8 {
         match self {
             Self::Inputs => 1,
             Self::WireLimit => 2,
@@ -48,6 +50,7 @@ impl From<AllocError> for DraftRefusal {
     }
 }
 
+// `?` meets both errors of an allocation, and no one `impl` covers both types.
 impl<T: Drop> From<AllocFailed<T>> for DraftRefusal {
     ghost from_gives = { λ _ r. r ≡ OutOfMemory };
 

@@ -6,6 +6,7 @@ mod lookup;
 mod making;
 mod offer;
 mod reading;
+mod refusal;
 mod session;
 mod text;
 
@@ -14,5 +15,6 @@ pub use lookup::LookupRefusal;
 pub use making::MakeRefusal;
 pub use offer::OfferRefusal;
 pub use reading::ReadRefusal;
+pub use refusal::{Refusal, numbered};
 pub use session::SessionRefusal;
 pub use text::TextRefusal;

@@ -1,5 +1,6 @@
-ghost use Rattle.std.specs.Prelude.{◌≡◌};
-ghost use Rattle.refusals.specs.Lookups.{number};
+ghost use Rattle.refusals.specs.Lookups.{number, number_tells};
+
+use crate::refusal::Refusal;
 
 // Why a table has no image to show.
 #[derive(Clone, Copy, PartialEq, Eq, Debug)]
@@ -8,12 +9,14 @@ pub enum LookupRefusal {
     StateOutside,
 }
 
-impl LookupRefusal {
-    pub fn number(self) -> u8
-        ensures is_its_number { result ≡ number self }
-    {
+impl Refusal for LookupRefusal {
+    ghost numbered = { number };
+
+    ghost numbers_differ = { number_tells };
+
+    fn number(self) -> u8 {
         match self {
-            LookupRefusal::StateOutside => 12,
+            Self::StateOutside => 12,
         }
     }
 }

@@ -1,5 +1,6 @@
-ghost use Rattle.std.specs.Prelude.{◌≡◌};
-ghost use Rattle.refusals.specs.Making.{number};
+ghost use Rattle.refusals.specs.Making.{number, number_tells};
+
+use crate::refusal::Refusal;
 
 // Why a record cannot be made.
 #[derive(Clone, Copy, PartialEq, Eq, Debug)]
@@ -10,13 +11,15 @@ pub enum MakeRefusal {
     Size,
 }
 
-impl MakeRefusal {
-    pub fn number(self) -> u8
-        ensures is_its_number { result ≡ number self }
-    {
+impl Refusal for MakeRefusal {
+    ghost numbered = { number };
+
+    ghost numbers_differ = { number_tells };
+
+    fn number(self) -> u8 {
         match self {
-            MakeRefusal::Width => 10,
-            MakeRefusal::Size => 11,
+            Self::Width => 10,
+            Self::Size => 11,
         }
     }
 }

@@ -1,5 +1,6 @@
-ghost use Rattle.std.specs.Prelude.{◌≡◌};
-ghost use Rattle.refusals.specs.Offers.{number};
+ghost use Rattle.refusals.specs.Offers.{number, number_tells};
+
+use crate::refusal::Refusal;
 
 // Why a gate was not taken.
 #[derive(Clone, Copy, PartialEq, Eq, Debug)]
@@ -12,14 +13,16 @@ pub enum OfferRefusal {
     NoPlace,
 }
 
-impl OfferRefusal {
-    pub fn number(self) -> u8
-        ensures is_its_number { result ≡ number self }
-    {
+impl Refusal for OfferRefusal {
+    ghost numbered = { number };
+
+    ghost numbers_differ = { number_tells };
+
+    fn number(self) -> u8 {
         match self {
-            OfferRefusal::LineOutside => 7,
-            OfferRefusal::LinesRepeat => 8,
-            OfferRefusal::NoPlace => 9,
+            Self::LineOutside => 7,
+            Self::LinesRepeat => 8,
+            Self::NoPlace => 9,
         }
     }
 }

@@ -1,5 +1,6 @@
-ghost use Rattle.std.specs.Prelude.{◌≡◌};
-ghost use Rattle.refusals.specs.Reading.{number};
+ghost use Rattle.refusals.specs.Reading.{number, number_tells};
+
+use crate::refusal::Refusal;
 
 // Why bytes do not end with a record.
 #[derive(Clone, Copy, PartialEq, Eq, Debug)]
@@ -14,15 +15,17 @@ pub enum ReadRefusal {
     TCount,
 }
 
-impl ReadRefusal {
-    pub fn number(self) -> u8
-        ensures is_its_number { result ≡ number self }
-    {
+impl Refusal for ReadRefusal {
+    ghost numbered = { number };
+
+    ghost numbers_differ = { number_tells };
+
+    fn number(self) -> u8 {
         match self {
-            ReadRefusal::Short => 26,
-            ReadRefusal::Trailer => 27,
-            ReadRefusal::GateForm => 28,
-            ReadRefusal::TCount => 29,
+            Self::Short => 26,
+            Self::Trailer => 27,
+            Self::GateForm => 28,
+            Self::TCount => 29,
         }
     }
 }

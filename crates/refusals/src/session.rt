@@ -1,6 +1,7 @@
 // Why a session's call is refused.
-ghost use Rattle.std.specs.Prelude.{◌≡◌};
-ghost use Rattle.refusals.specs.Sessions.{number};
+ghost use Rattle.refusals.specs.Sessions.{number, number_tells};
+
+use crate::refusal::Refusal;
 
 #[derive(Clone, Copy, PartialEq, Eq, Debug)]
 pub enum SessionRefusal {
@@ -24,22 +25,24 @@ pub enum SessionRefusal {
     EvenCopies,
 }
 
-impl SessionRefusal {
-    pub fn number(self) -> u8
-        ensures is_its_number { result ≡ number self }
-    {
+impl Refusal for SessionRefusal {
+    ghost numbered = { number };
+
+    ghost numbers_differ = { number_tells };
+
+    fn number(self) -> u8 {
         match self {
-            SessionRefusal::NoPlaces => 9,
-            SessionRefusal::Width => 13,
-            SessionRefusal::NoSuchNode => 14,
-            SessionRefusal::NodeHeld => 15,
-            SessionRefusal::OperandNotHeld => 16,
-            SessionRefusal::LineNotFree => 17,
-            SessionRefusal::LogFull => 18,
-            SessionRefusal::NodeNotHeld => 19,
-            SessionRefusal::NoSuchOutput => 20,
-            SessionRefusal::StillHeld => 22,
-            SessionRefusal::EvenCopies => 23,
+            Self::NoPlaces => 9,
+            Self::Width => 13,
+            Self::NoSuchNode => 14,
+            Self::NodeHeld => 15,
+            Self::OperandNotHeld => 16,
+            Self::LineNotFree => 17,
+            Self::LogFull => 18,
+            Self::NodeNotHeld => 19,
+            Self::NoSuchOutput => 20,
+            Self::StillHeld => 22,
+            Self::EvenCopies => 23,
         }
     }
 }

@@ -1,9 +1,10 @@
 ghost use Rattle.std.specs.Prelude.{◌≡◌};
 ghost use Rattle.refusals.specs.declared.draft.DraftRefusal.TheVariants.{OutOfMemory};
-ghost use Rattle.refusals.specs.Texts.{number as its_number};
+ghost use Rattle.refusals.specs.Texts.{number as its_number, number_tells};
 ghost use Rattle.refusals.specs.declared.text.TextRefusal.TheVariants.{Draft};
 
 use crate::draft::DraftRefusal;
+use crate::refusal::Refusal;
 use std::alloc::{AllocError, AllocFailed};
 
 // Why a text gives no network.
@@ -23,18 +24,19 @@ pub enum TextRefusal {
     Draft(DraftRefusal),
 }
 
-impl TextRefusal {
-    // The number of the question that got the no; 0 for want of memory.
-    pub fn number(self) -> u8
-        ensures is_its_number { result ≡ its_number self }
-    {
+impl Refusal for TextRefusal {
+    ghost numbered = { its_number };
+
+    ghost numbers_differ = { number_tells };
+
+    fn number(self) -> u8 {
         match self {
-            TextRefusal::TooLong => 30,
-            TextRefusal::Malformed => 31,
-            TextRefusal::Header => 32,
-            TextRefusal::GateShape => 33,
-            TextRefusal::Wiring => 34,
-            TextRefusal::Draft(e) => e.number(),
+            Self::TooLong => 30,
+            Self::Malformed => 31,
+            Self::Header => 32,
+            Self::GateShape => 33,
+            Self::Wiring => 34,
+            Self::Draft(e) => e.number(),
         }
     }
 }
@@ -55,6 +57,7 @@ impl From<AllocError> for TextRefusal {
     }
 }
 
+// `?` meets both errors of an allocation, and no one `impl` covers both types.
 impl<T: Drop> From<AllocFailed<T>> for TextRefusal {
     ghost from_gives = { λ _ r. r ≡ Draft OutOfMemory };
 

@@ -2,7 +2,7 @@ ghost use Rattle.std.specs.Prelude.{◌≤◌, length};
 
 mod ops;
 
-// Reads a text token by token: what stands before `at` has been read.
+// Reads a text token by token: what stands before `at` has been read. The place is kept, since a token says its own.
 #[derive(Drop)]
 pub struct Scanner<'a> {
     source: &'a [u8],

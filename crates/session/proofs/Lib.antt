@@ -1,4 +1,2 @@
-pub mod Chains
-pub mod Fitting
-pub mod Going
-pub mod Offers
+pub mod Grants
+pub mod Steadiness

@@ -1,5 +1,4 @@
 pub mod Ending
 pub mod Granted
 pub mod Questions
-pub mod Sending
 pub mod State

@@ -6,7 +6,7 @@ use Rattle.ledger.specs.declared.ledger.Ledger.{Ledger}
 use Rattle.ledger.specs.declared.moves.Move.{Move}
 use Rattle.ledger.specs.declared.moves.Move.TheVariants.{Compute, Release, Copy}
 use Rattle.moves.specs.Fans.{joined}
-use Rattle.ledger.specs.Ledgers.{all_ready, free_line, any_held, all_true, line_in}
+use Rattle.ledger.specs.Ledgers.{standing, all_ready, free_line, any_held, all_true, line_in}
 use Rattle.moves.specs.Spelling.{around_of, core_of}
 use Rattle.refusals.specs.declared.session.SessionRefusal.{SessionRefusal}
 use Rattle.refusals.specs.declared.session.SessionRefusal.TheVariants.{NoPlaces, Width, NoSuchNode, NodeHeld, OperandNotHeld, LineNotFree, LogFull, NodeNotHeld, NoSuchOutput, StillHeld, EvenCopies}
@@ -38,7 +38,7 @@ free_ancilla net w held l = nat_le (net.inputs + output_count net) l && (nat_lt 
 
 -- a move of so many gates, where so many places are free: it, its undoing and that of all that stands fit
 abbrev pub room_questions : Ledger → ℕ → ℕ → List Question
-room_questions L free cost = ask (nat_lt L.standing 1024) LogFull ∷ (ask (nat_le (L.undo + 2 * cost) free) NoPlaces ∷ [])
+room_questions L free cost = ask (nat_lt (standing L) 1024) LogFull ∷ (ask (nat_le (L.undo + 2 * cost) free) NoPlaces ∷ [])
 
 -- a network, a sink's width and free places, and a session's ledger
 module _ (net : Net) (w free : ℕ) (L : Ledger) where

@@ -1,17 +1,19 @@
 -- The questions of each call, put to a session; and what a session is after a move.
-use Rattle.std.specs.Prelude.{◌≡◌, ℕ, true, false, List, [], length, replicate, None, slice_index_or}
+use Rattle.std.specs.Prelude.{◌≡◌, ℕ, true, false, List, [], length, replicate, None, Result, OnOk, OnErr, slice_index_or}
 use Rattle.std.specs.Borrow.{Bor}
 use Rattle.circuit.specs.declared.Gate.{Gate}
 use Rattle.network.specs.Wires.{Net}
 use Rattle.network.specs.Networks.{sealed}
 use Rattle.network.specs.declared.network.Network.{Network}
+use Rattle.circuit.specs.Gates.{fitting}
 use Rattle.sinks.specs.Chain.{Chain}
 use Rattle.sinks.specs.Meaning.{Meaning}
 use Rattle.ledger.specs.Ledgers.{Noted, line_in, past}
 use Rattle.ledger.specs.declared.moves.Move.{Move}
 use Rattle.ledger.specs.declared.moves.Move.TheVariants.{Release}
-use Rattle.session.specs.Questions.{Question, compute_questions, release_questions, copy_questions, end_questions, move_room, sent}
-use Rattle.session.specs.Sending.{Kept, fitting}
+use Rattle.session.specs.Questions.{Question, first_no, compute_questions, release_questions, copy_questions, end_questions, move_room, sent}
+use Rattle.sinks.specs.Sending.{Kept}
+use Rattle.refusals.specs.declared.session.SessionRefusal.{SessionRefusal}
 use Rattle.session.specs.declared.session.Session.{Session}
 
 module _ {X : Type 0} where
@@ -51,12 +53,19 @@ module _ {X : Type 0} where
     pub copies : s.ledger.odd ≡ replicate 64 false
     pub undo : s.ledger.undo ≡ 0
 
-  -- t has the network of s, and a sink that is sound if that of s is, of the same width
-  pub record Steady (meaning : X → Meaning) (sound : X → Type 0) (s t : Session X) : Type 0 where
+  -- t has the network of s, and its sink after some more gates
+  pub record Steady (meaning : X → Meaning) (took : X → Gate → X → Type 0) (s t : Session X) : Type 0 where
     pub network : t.network ≡ s.network
-    pub sink : Kept meaning sound s.sink t.sink
+    pub sink : Kept meaning took s.sink t.sink
 
   -- t is s after an accepted move: it stands, and its gates were taken in order if they fit the width
   pub record Moved (meaning : X → Meaning) (took : X → Gate → X → Type 0) (s : Session X) (made : Move) (t : Session X) : Type 0 where
     pub ledger : Noted s.ledger made (length (sent_now s made)) t.ledger
     pub taken : fitting (meaning s.sink).width (sent_now s made) ≡ true → Chain took s.sink (sent_now s made) t.sink
+
+  -- how a call that asks for a move answers, and what it leaves
+  pub record Called (meaning : X → Meaning) (took : X → Gate → X → Type 0) (s : Session X) (made : Move) (questions : List Question) (answer : Result (Unit {0}) SessionRefusal) (t : Session X) : Type 0 where
+    pub answers_first_no : answer ≡ first_no questions
+    pub refused_changes_nothing : OnErr answer (t ≡ s)
+    pub keeps_network_and_only_adds_gates : Steady meaning took s t
+    pub accepted_makes_the_move : OnOk answer (Moved meaning took s made t)

@@ -1,68 +1,73 @@
-// Lists of gates offered to a sink, forwards and backwards.
+// Gates offered to a sink one after the other.
 ghost use Rattle.std.specs.Prelude.{◌≡◌, Some, Ok};
+ghost use Rattle.std.specs.Iterator.{IsFinite};
+ghost use Rattle.std.specs.Iterator.Runs.{WholeRun};
 ghost use Rattle.sinks.specs.Meaning.{answer};
+ghost use Rattle.sinks.specs.Sending.{Kept, Taken};
 ghost use Rattle.moves.specs.Fans.{undone, joined};
 ghost use Rattle.moves.specs.Spelled.{spelled};
-ghost use Rattle.session.specs.Sending.{Kept, Taken};
 
 use circuit::Gate;
 use moves::Spelling;
 use sinks::Sink;
 
 // Offers one gate.
-pub(crate) fn send<S: Sink>(sink: &mut S, g: Gate)
-    ensures keeps_sound { Kept S.Sink.meaning S.Sink.sound sink.old sink.new }
-    ensures taken_if_fit { S.Sink.sound sink.old → answer g (S.Sink.meaning sink.old) ≡ Ok tt → S.Sink.took sink.old g sink.new }
+fn send<S: Sink>(sink: &mut S, g: Gate)
+    ensures only_adds_gates { Kept S.Sink.meaning S.Sink.took sink.old sink.new }
+    ensures taken_if_fit { answer g (S.Sink.meaning sink.old) ≡ Ok tt → S.Sink.took sink.old g sink.new }
 {
     let _ = sink.offer(g);
 }
 
 // Offers each gate in order.
-pub(crate) fn send_all<S: Sink>(sink: &mut S, gates: &[Gate])
-    ensures keeps_sound { Kept S.Sink.meaning S.Sink.sound sink.old sink.new }
-    ensures all_taken_in_order { S.Sink.sound sink.old → Taken S.Sink.meaning S.Sink.took sink.old gates.now sink.new }
+#[tactic(auto, using(sinks::proofs::Chains::kept_none, sinks::proofs::Chains::taken_none))]
+fn send_all<S: Sink, I: Iterator<Item = Gate> + Drop>(sink: &mut S, gates: I)
+    requires can { I.can_next gates }
+    requires ends { IsFinite (I.remaining gates) }
+    ensures only_adds_gates { Kept S.Sink.meaning S.Sink.took sink.old sink.new }
+    ensures all_taken_in_order { WholeRun I.next_gives gates (λ p. Taken S.Sink.meaning S.Sink.took sink.old p.items sink.new) }
 {
     for g in gates {
-        send(sink, *g);
+        send(sink, g);
     }
 }
 
 // Offers the inverse of each gate, the last first.
-pub(crate) fn send_undone<S: Sink>(sink: &mut S, gates: &[Gate])
-    ensures keeps_sound { Kept S.Sink.meaning S.Sink.sound sink.old sink.new }
-    ensures all_undone_in_order { S.Sink.sound sink.old → Taken S.Sink.meaning S.Sink.took sink.old (undone gates.now) sink.new }
+fn send_undone<S: Sink>(sink: &mut S, gates: &[Gate])
+    ensures only_adds_gates { Kept S.Sink.meaning S.Sink.took sink.old sink.new }
+    ensures all_undone_in_order { Taken S.Sink.meaning S.Sink.took sink.old (undone gates.now) sink.new }
 {
-    for k in 0..gates.len() {
-        let g = gates[gates.len() - 1 - k];
-        send(sink, g.inverse());
-    }
+    send_all(sink, gates.iter().rev().map(|g| g.inverse()));
 }
 
 // Offers the gates, one gate, and the gates undone.
-pub(crate) fn send_conjugated<S: Sink>(sink: &mut S, around: &[Gate], core: Gate)
-    ensures keeps_sound { Kept S.Sink.meaning S.Sink.sound sink.old sink.new }
-    ensures all_taken_in_order { S.Sink.sound sink.old → Taken S.Sink.meaning S.Sink.took sink.old (joined around.now (Some core)) sink.new }
+#[tactic(auto, using(sinks::proofs::Chains::kept_twice))]
+fn send_conjugated<S: Sink>(sink: &mut S, around: &[Gate], core: Gate)
+    ensures only_adds_gates { Kept S.Sink.meaning S.Sink.took sink.old sink.new }
+    ensures all_taken_in_order { Taken S.Sink.meaning S.Sink.took sink.old (joined around.now (Some core)) sink.new }
 {
-    send_all(sink, around);
+    send_all(sink, around.iter().copied());
     send(sink, core);
     send_undone(sink, around);
 }
 
 // Offers the gates of a move.
 pub(crate) fn send_move<S: Sink>(sink: &mut S, gates: &Spelling)
-    ensures keeps_sound { Kept S.Sink.meaning S.Sink.sound sink.old sink.new }
-    ensures all_taken_in_order { S.Sink.sound sink.old → Taken S.Sink.meaning S.Sink.took sink.old (spelled gates.now) sink.new }
+    ensures only_adds_gates { Kept S.Sink.meaning S.Sink.took sink.old sink.new }
+    ensures all_taken_in_order { Taken S.Sink.meaning S.Sink.took sink.old (spelled gates.now) sink.new }
 {
     match gates.core() {
         Some(core) => send_conjugated(sink, gates.around(), core),
-        None => send_all(sink, gates.around()),
+        None => send_all(sink, gates.around().iter().copied()),
     }
 }
 
-// Offers the gates that undo a move.
+// Offers the gates that undo a move. A match beside that of `send_move`: over one chain for both directions the
+// proof of the items that it yields did not close.
+#[tactic(auto, using(moves::proofs::Undoing::undone_around))]
 pub(crate) fn send_move_undone<S: Sink>(sink: &mut S, gates: &Spelling)
-    ensures keeps_sound { Kept S.Sink.meaning S.Sink.sound sink.old sink.new }
-    ensures all_undone_in_order { S.Sink.sound sink.old → Taken S.Sink.meaning S.Sink.took sink.old (undone (spelled gates.now)) sink.new }
+    ensures only_adds_gates { Kept S.Sink.meaning S.Sink.took sink.old sink.new }
+    ensures all_undone_in_order { Taken S.Sink.meaning S.Sink.took sink.old (undone (spelled gates.now)) sink.new }
 {
     match gates.core() {
         Some(core) => send_conjugated(sink, gates.around(), core.inverse()),

@@ -1,15 +1,13 @@
 // Given at opening and taken back only by the session's end. It cannot be dropped, so a program that
 // leaves a session without ending it is refused when it is built.
-pub struct EndToken {
-    opened: bool,
-}
+pub struct EndToken(());
 
 impl EndToken {
     pub(crate) fn new() -> EndToken {
-        EndToken { opened: true }
+        EndToken(())
     }
 
     pub(crate) fn spend(self) {
-        let EndToken { opened: _ } = self;
+        let EndToken(()) = self;
     }
 }

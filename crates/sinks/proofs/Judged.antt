@@ -8,17 +8,12 @@ use Rattle.refusals.specs.declared.offer.OfferRefusal.TheVariants.{LineOutside, 
 use Rattle.sinks.specs.Questions.{judged}
 
 -- the answer by its three tests
-abbrev by : Bool → Bool → Bool → Result (Unit {0}) OfferRefusal
-by i a z = cond i (cond a (cond z (Err NoPlace) (Ok tt)) (Err LinesRepeat)) (Err LineOutside)
-
-never : (x : OfferRefusal) → ◌≡◌ {A = Result (Unit {0}) OfferRefusal} (Err x) (Ok tt) → ⊥
-never x e = let z : ◌≡◌ {A = ℕ} 0 1 = cc in omega arith
-
-by_parts : (i a z : Bool) → by i a z ≡ Ok tt → (i ≡ true) × (a ≡ true) × (z ≡ false)
+by_parts : (i a z : Bool) → ◌≡◌ {A = Result (Unit {0}) OfferRefusal} (cond i (cond a (cond z (Err NoPlace) (Ok tt)) (Err LinesRepeat)) (Err LineOutside)) (Ok tt)
+    → (i ≡ true) × (a ≡ true) × (z ≡ false)
 by_parts true true false e = (refl, refl, refl)
-by_parts true true true e = absurd (never NoPlace e)
-by_parts true false z e = absurd (never LinesRepeat e)
-by_parts false a z e = absurd (never LineOutside e)
+by_parts true true true e = cc
+by_parts true false z e = cc
+by_parts false a z e = cc
 
 pub judged_inside : (g : Gate) (w f : ℕ) → judged g w f ≡ Ok tt → inside g w ≡ true
 judged_inside g w f e = (by_parts (inside g w) (apart g) (eqb f 0) e).0

@@ -1,4 +1,2 @@
 pub mod Chains
-pub mod Going
 pub mod Judged
-pub mod Offers

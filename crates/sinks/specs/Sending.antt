@@ -5,14 +5,12 @@ use Rattle.circuit.specs.Gates.{fitting}
 use Rattle.sinks.specs.Meaning.{Meaning}
 use Rattle.sinks.specs.Chain.{Chain}
 
--- a sound sink stays sound, and keeps its width
-pub record KeptSound {S : Type 0} (meaning : S → Meaning) (sound : S → Type 0) (s t : S) : Type 0 where
-  pub still : sound t
+-- t is s after some more gates that it took, and has its width
+pub record Kept {S : Type 0} (meaning : S → Meaning) (took : S → Gate → S → Type 0) (s t : S) : Type 0 where
   pub width : (meaning t).width ≡ (meaning s).width
-
-abbrev pub Kept : {S : Type 0} (meaning : S → Meaning) (sound : S → Type 0) (s t : S) → Type 0
-Kept meaning sound s t = sound s → KeptSound meaning sound s t
+  pub gates : List Gate
+  pub taken : Chain took s gates t
 
 -- every gate is taken, in order, where there are places enough and the gates fit the width
-abbrev pub Sent : {S : Type 0} (meaning : S → Meaning) (took : S → Gate → S → Type 0) (s : S) (gates : List Gate) (t : S) → Type 0
-Sent meaning took s gates t = length gates ≤ (meaning s).free → fitting (meaning s).width gates ≡ true → Chain took s gates t
+unfoldable pub Taken : {S : Type 0} (meaning : S → Meaning) (took : S → Gate → S → Type 0) (s : S) (gates : List Gate) (t : S) → Type 0
+Taken meaning took s gates t = length gates ≤ (meaning s).free → fitting (meaning s).width gates ≡ true → Chain took s gates t

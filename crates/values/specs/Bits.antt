@@ -1,6 +1,7 @@
 -- The Boolean ring of one bit: sum is XOR, product is AND.
 use Rattle.std.specs.Prelude.{◌≡◌, Bool, true, false, not, ◌&&◌, refl}
 use Rattle.std.proofs.Common.{sym, ap, ◌∙◌}
+use Rattle.std.proofs.Math.Bool.{and_assoc, and_comm, and-true, and_self}
 use Rattle.values.specs.Rings.{BooleanRing}
 
 abbrev pub xor : Bool → Bool → Bool
@@ -31,24 +32,6 @@ pub xor_self : (a : Bool) → xor a a ≡ false
 xor_self true = refl
 xor_self false = refl
 
-pub and_assoc : (a b c : Bool) → ((a && b) && c) ≡ (a && (b && c))
-and_assoc true b c = refl
-and_assoc false b c = refl
-
-pub and_comm : (a b : Bool) → (a && b) ≡ (b && a)
-and_comm true true = refl
-and_comm true false = refl
-and_comm false true = refl
-and_comm false false = refl
-
-pub and_one : (a : Bool) → (a && true) ≡ a
-and_one true = refl
-and_one false = refl
-
-pub and_self : (a : Bool) → (a && a) ≡ a
-and_self true = refl
-and_self false = refl
-
 pub and_xor : (a b c : Bool) → (a && xor b c) ≡ xor (a && b) (a && c)
 and_xor true b c = refl
 and_xor false b c = refl
@@ -76,7 +59,7 @@ bits = record {
   sum_self = xor_self;
   product_assoc = and_assoc;
   product_comm = and_comm;
-  product_one = and_one;
+  product_one = and-true;
   product_self = and_self;
   distributes = and_xor;
   same_yes = equal_yes;

@@ -22,7 +22,7 @@ pub trait Algebra: Copy {
     fn product(self, other: Self) -> Self
         ensures means_the_product { meaning result ≡ ring.product (meaning self) (meaning other) };
 
-    // Whether two values mean the same.
+    // Whether two values mean the same. Not `==`, since several values of an algebra may mean the same.
     fn same(self, other: Self) -> bool
         ensures tells_equal_meanings { result ≡ ring.same (meaning self) (meaning other) };
 }

@@ -4,51 +4,35 @@ ghost use Rattle.form.specs.Shapes.{shape, zero_form, element_form, xor_form, in
 
 use super::Form;
 use std::alloc::{AllocError, Global};
+use std::cmp::Ordering;
 
 // The elements in just one of two ascending slices, ascending.
-fn merge(heap: Global, a: &[u16], b: &[u16]) -> Result<Vec<u16>, AllocError>
+fn merge(heap: Global, mut a: &[u16], mut b: &[u16]) -> Result<Vec<u16>, AllocError>
     requires left { ascending a.now ≡ true }
     requires right { ascending b.now ≡ true }
-    ensures is_symmetric_difference { IfOk result (λ v. v.items ≡ symmetric_difference a.now b.now) }
+    ensures is_symmetric_difference { IfOk result (λ v. v.items ≡ symmetric_difference a.entry.now b.entry.now) }
     ensures ascends { IfOk result (λ v. ascending v.items ≡ true) }
 {
     let mut out = Vec::with_capacity(heap, a.len().saturating_add(b.len()))?;
-    let mut i = 0;
-    let mut j = 0;
-    while i < a.len() && j < b.len() {
-        if a[i] < b[j] {
-            out.push(a[i])?;
-            i += 1;
-        } else if b[j] < a[i] {
-            out.push(b[j])?;
-            j += 1;
-        } else {
-            i += 1;
-            j += 1;
+    while let (Some((x, more_a)), Some((y, more_b))) = (a.split_first(), b.split_first()) {
+        match x.cmp(y) {
+            Ordering::Less => {
+                out.push(*x)?;
+                a = more_a;
+            }
+            Ordering::Greater => {
+                out.push(*y)?;
+                b = more_b;
+            }
+            Ordering::Equal => {
+                a = more_a;
+                b = more_b;
+            }
         }
     }
-    out.extend_from_slice(&a[i..])?;
-    out.extend_from_slice(&b[j..])?;
+    out.extend_from_slice(a)?;
+    out.extend_from_slice(b)?;
     Ok(out)
-}
-
-// Whether two slices have the same elements.
-fn same_elements(a: &[u16], b: &[u16]) -> bool
-    ensures tells_if_same { result ≡ same_set a.now b.now }
-{
-    a == b
-}
-
-// The first element of a that b lacks.
-fn first_outside(a: &[u16], b: &[u16]) -> Option<u16>
-    ensures is_first_outside { result ≡ lowest_outside a.now b.now }
-{
-    for e in a {
-        if !b.contains(e) {
-            return Some(*e);
-        }
-    }
-    None
 }
 
 impl Form {
@@ -69,16 +53,6 @@ impl Form {
         let mut form = Form::zero(heap);
         form.elements.push(i)?;
         Ok(form)
-    }
-
-    // Another form of the same shape.
-    pub fn duplicate(&self, heap: Global) -> Result<Form, AllocError>
-        ensures is_the_same { IfOk result (λ f. shape f ≡ shape self.now) }
-    {
-        Ok(Form {
-            elements: Vec::from_slice(heap, self.elements())?,
-            constant: self.constant,
-        })
     }
 
     // The XOR of two forms: the elements in just one of them, and the XOR of the constants.
@@ -105,7 +79,7 @@ impl Form {
     pub fn is_empty(&self) -> bool
         ensures tells_if_empty { result ≡ is_empty (shape self.now).set }
     {
-        self.elements().is_empty()
+        self.elements.is_empty()
     }
 
     pub fn constant(&self) -> bool
@@ -118,7 +92,7 @@ impl Form {
     pub fn same_set(&self, other: &Form) -> bool
         ensures tells_if_same { result ≡ same_set (shape self.now).set (shape other.now).set }
     {
-        same_elements(self.elements(), other.elements())
+        self.elements == other.elements
     }
 
     // The elements, ascending.
@@ -132,6 +106,21 @@ impl Form {
     pub fn lowest_outside(&self, other: &Form) -> Option<u16>
         ensures is_lowest_outside { result ≡ lowest_outside (shape self.now).set (shape other.now).set }
     {
-        first_outside(self.elements(), other.elements())
+        self.elements()
+            .iter()
+            .copied()
+            .find(|e| !other.elements().contains(e))
+    }
+}
+
+// By hand: no derive writes `Clone` for a struct with ghost fields.
+impl Clone for Form {
+    ghost is_clone = { λ f g. shape g ≡ shape f };
+
+    fn clone(&self) -> Result<Form, AllocError> {
+        Ok(Form {
+            elements: self.elements.clone()?,
+            constant: self.constant,
+        })
     }
 }

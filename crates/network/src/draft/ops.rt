@@ -1,59 +1,42 @@
-ghost use Rattle.std.specs.Prelude.{◌≡◌, ◌<◌, true, is_some, IfOk, None, vec_len, MatchResult, nat_lt};
+ghost use Rattle.std.specs.Prelude.{◌≡◌, ◌+◌, ◌<◌, ◌≤◌, true, cond, is_some, IfOk, MatchOption, MatchResult};
 ghost use Rattle.std.specs.Option.{option_map};
-ghost use Rattle.form.specs.Shapes.{shape, xor_form, inverted_form};
-ghost use Rattle.network.specs.Wires.{wire_shape, node_shape, form_at, and_form, fits, add, with_wire, node_over, wire_count, node_count, output_count, input_wire};
-ghost use Rattle.network.specs.Drafts.{drafted, Passed, Admitted, Appended, Added, Opened, Marked, Sealable};
+ghost use Rattle.form.specs.Shapes.{shape, zero_form, element_form};
+ghost use Rattle.network.specs.Wires.{wire_shape, form_at, and_form, add, with_wire, with_node, wire_count, node_count, output_count, input_wire};
+ghost use Rattle.network.specs.Drafts.{drafted, Passed, Appended, Added, Opened, Marked, Sealable};
 ghost use Rattle.network.specs.Networks.{Finished};
-ghost use Rattle.network.specs.declared.wire.Step.TheVariants.{Xor, And, Inv};
+ghost use Rattle.refusals.specs.declared.draft.DraftRefusal.TheVariants.{NoSuchWire};
 
 use super::Draft;
-use crate::lists::count;
+use crate::lists::{count, item};
 use crate::network::Network;
-use crate::wire::{Node, Step, Wire};
+use crate::wire::{Gate, Node, Step, Wire};
 use form::Form;
 use refusals::DraftRefusal;
 use std::alloc::{AllocError, Global};
 
+// The form of a constant times a form.
+fn times(constant: bool, form: &Form, heap: Global) -> Result<Form, AllocError>
+    ensures is_product { IfOk result (λ f. shape f ≡ cond constant (shape form.now) zero_form) }
+{
+    if constant {
+        form.clone()
+    } else {
+        Ok(Form::zero(heap))
+    }
+}
+
 // The form of an AND of two forms, or none where it takes a node.
-fn and_form(heap: Global, a: &Form, b: &Form) -> Result<Option<Form>, AllocError>
+fn and_form(a: &Form, b: &Form, heap: Global) -> Result<Option<Form>, AllocError>
     ensures is_and_form { MatchResult result (λ o. option_map shape o ≡ and_form (shape a.now) (shape b.now)) (λ _. is_some (and_form (shape a.now) (shape b.now)) ≡ true) }
 {
     if a.is_empty() {
-        let form = if a.constant() {
-            b.duplicate(heap)?
-        } else {
-            Form::zero(heap)
-        };
-        return Ok(Some(form));
-    }
-    if b.is_empty() {
-        let form = if b.constant() {
-            a.duplicate(heap)?
-        } else {
-            Form::zero(heap)
-        };
-        return Ok(Some(form));
-    }
-    if a.same_set(b) {
-        let form = if a.constant() ^ b.constant() {
-            Form::zero(heap)
-        } else {
-            a.duplicate(heap)?
-        };
-        return Ok(Some(form));
-    }
-    Ok(None)
-}
-
-// Whether a step at wire `at` of a draft with n inputs reads earlier wires only.
-fn reads_earlier(step: Step, n: u16, at: u16) -> bool
-    ensures tells_if_it_fits { result ≡ fits n at step }
-{
-    match step {
-        Step::Input => at < n,
-        Step::Xor(a, b) => (a < at) & (b < at),
-        Step::And(a, b) => (a < at) & (b < at),
-        Step::Inv(a) => a < at,
+        Ok(Some(times(a.constant(), b, heap)?))
+    } else if b.is_empty() {
+        Ok(Some(times(b.constant(), a, heap)?))
+    } else if a.same_set(b) {
+        Ok(Some(times(a.constant() == b.constant(), a, heap)?))
+    } else {
+        Ok(None)
     }
 }
 
@@ -72,7 +55,7 @@ impl Draft {
     pub fn new(heap: Global, n: u16) -> Result<Draft, DraftRefusal>
         ensures opens_or_answers_first_no { Opened n result }
     {
-        if n < 1 || n > 64 {
+        if !(1..=64).contains(&n) {
             return Err(DraftRefusal::Inputs);
         }
         let mut wires = Vec::new(heap);
@@ -99,148 +82,125 @@ impl Draft {
     pub fn wires(&self) -> u16
         ensures is_the_number_of_wires { result ≡ wire_count (drafted self.now) }
     {
-        count(self.wires.as_slice())
+        count(&self.wires)
     }
 
     // How many nodes there are.
     pub fn nodes(&self) -> u16
         ensures is_the_number_of_nodes { result ≡ node_count (drafted self.now) }
     {
-        count(self.nodes.as_slice())
+        count(&self.nodes)
     }
 
     // How many outputs there are.
     pub fn outputs(&self) -> u16
         ensures is_the_number_of_outputs { result ≡ output_count (drafted self.now) }
     {
-        count(self.outputs.as_slice())
+        count(&self.outputs)
     }
 
-    // The form of a wire.
-    pub(crate) fn form(&self, i: u16) -> &Form
-        requires exists { i < vec_len self.now.wires }
-        ensures is_its_form { shape result.now ≡ form_at (drafted self.now).body i }
+    // The form of wire i, where there is one.
+    pub(crate) fn form(&self, i: u16) -> Option<&Form>
+        ensures is_form_of_wire_i { MatchOption result (wire_count (drafted self.now) ≤ i) (λ f. (i < wire_count (drafted self.now)) × (shape f.now ≡ form_at (drafted self.now).body i)) }
     {
-        &self.wires[i as usize].form
+        item(&self.wires, i).map(|wire| &wire.form)
     }
 
-    // The form of the XOR of two wires.
-    fn xor_form(&self, a: u16, b: u16) -> Result<Form, AllocError>
-        requires first { a < vec_len self.now.wires }
-        requires second { b < vec_len self.now.wires }
-        ensures is_xor_form { IfOk result (λ f. shape f ≡ xor_form (form_at (drafted self.now).body a) (form_at (drafted self.now).body b)) }
+    // The form of a wire that a gate reads.
+    fn operand(&self, i: u16) -> Result<&Form, DraftRefusal>
+        ensures is_form_of_wire_i { MatchResult result (λ f. (i < wire_count (drafted self.now)) × (shape f.now ≡ form_at (drafted self.now).body i)) (λ e. (wire_count (drafted self.now) ≤ i) × (e ≡ NoSuchWire)) }
     {
-        self.form(a).xor(self.form(b), self.heap)
-    }
-
-    // The form of the complement of a wire.
-    fn inverted_form(&self, a: u16) -> Result<Form, AllocError>
-        requires exists { a < vec_len self.now.wires }
-        ensures is_inverted_form { IfOk result (λ f. shape f ≡ inverted_form (form_at (drafted self.now).body a)) }
-    {
-        Ok(self.form(a).duplicate(self.heap)?.invert())
-    }
-
-    // The node over two wires.
-    fn node_over(&self, a: u16, b: u16) -> Result<Node, AllocError>
-        requires first { a < vec_len self.now.wires }
-        requires second { b < vec_len self.now.wires }
-        ensures keeps_both_forms { IfOk result (λ n. node_shape n ≡ node_over (drafted self.now).body a b) }
-    {
-        let first = self.form(a).duplicate(self.heap)?;
-        let second = self.form(b).duplicate(self.heap)?;
-        Ok(Node { first, second })
-    }
-
-    // Asks what every gate must meet: there is room for a wire, and the wires it reads exist.
-    fn admit(&self, step: Step) -> Result<(), DraftRefusal>
-        ensures admits_or_answers_first_no { Admitted (drafted self.now) step result }
-    {
-        let at = self.wires();
-        if at >= 1024 {
-            return Err(DraftRefusal::WireLimit);
-        }
-        if !reads_earlier(step, self.inputs, at) {
-            return Err(DraftRefusal::NoSuchWire);
-        }
-        Ok(())
+        self.form(i).ok_or(DraftRefusal::NoSuchWire)
     }
 
     // Adds a wire whose form is known.
-    fn append(&mut self, step: Step, form: Form) -> Result<u16, DraftRefusal>
-        requires passed { Passed (drafted self.old) step }
-        requires right { add self.old.inputs (drafted self.old).body step ≡ with_wire (drafted self.old).body step (shape form) }
-        ensures appends_unless_out_of_memory { Appended (drafted self.old) step result (drafted self.new) }
+    fn append(&mut self, gate: Gate, form: Form) -> Result<u16, DraftRefusal>
+        requires passed { Passed (drafted self.old) (Step.Gate gate) }
+        requires right { add self.old.inputs (drafted self.old).body (Step.Gate gate) ≡ with_wire (drafted self.old).body (Step.Gate gate) (shape form) }
+        ensures appends_unless_out_of_memory { Appended (drafted self.old) (Step.Gate gate) result (drafted self.new) }
     {
         let at = self.wires();
+        let step = Step::Gate(gate);
         self.wires.push(Wire { step, form })?;
         Ok(at)
     }
 
     // Adds a wire that takes a new node.
-    fn append_node(&mut self, a: u16, b: u16) -> Result<u16, DraftRefusal>
-        requires passed { Passed (drafted self.old) (And a b) }
-        requires due { and_form (form_at (drafted self.old).body a) (form_at (drafted self.old).body b) ≡ None }
-        ensures adds_or_answers_first_no { Added (drafted self.old) (And a b) result (drafted self.new) }
+    fn append_node(&mut self, gate: Gate, node: Node) -> Result<u16, DraftRefusal>
+        requires passed { Passed (drafted self.old) (Step.Gate gate) }
+        requires room { node_count (drafted self.old) < 192 }
+        requires right { add self.old.inputs (drafted self.old).body (Step.Gate gate) ≡ with_wire (with_node (drafted self.old).body (shape node.first) (shape node.second)) (Step.Gate gate) (element_form (self.old.inputs + node_count (drafted self.old))) }
+        ensures appends_unless_out_of_memory { Appended (drafted self.old) (Step.Gate gate) result (drafted self.new) }
     {
         let at = self.wires();
-        let k = self.nodes();
-        if k >= 192 {
-            return Err(DraftRefusal::NodeLimit);
-        }
-        let form = Form::element(self.heap, self.inputs + k)?;
-        let node = self.node_over(a, b)?;
+        let step = Step::Gate(gate);
+        let form = Form::element(self.heap, self.inputs + self.nodes())?;
         self.wires.reserve(1)?;
         self.nodes.push(node)?;
-        let step = Step::And(a, b);
         self.wires.push_reserved(Wire { step, form });
         Ok(at)
     }
 
+    // Adds the wire of a gate, and answers its number.
+    pub fn add(&mut self, gate: Gate) -> Result<u16, DraftRefusal>
+        ensures adds_or_answers_first_no { Added (drafted self.old) (Step.Gate gate) result (drafted self.new) }
+    {
+        if self.wires() >= 1024 {
+            return Err(DraftRefusal::WireLimit);
+        }
+        match gate {
+            Gate::Xor(a, b) => {
+                let (first, second) = (self.operand(a)?, self.operand(b)?);
+                let form = first.xor(second, self.heap)?;
+                self.append(gate, form)
+            }
+            Gate::And(a, b) => {
+                let (first, second) = (self.operand(a)?, self.operand(b)?);
+                match and_form(first, second, self.heap)? {
+                    Some(form) => self.append(gate, form),
+                    None if self.nodes() >= 192 => Err(DraftRefusal::NodeLimit),
+                    None => {
+                        let node = Node {
+                            first: first.clone()?,
+                            second: second.clone()?,
+                        };
+                        self.append_node(gate, node)
+                    }
+                }
+            }
+            Gate::Inv(a) => {
+                let form = self.operand(a)?.clone()?.invert();
+                self.append(gate, form)
+            }
+        }
+    }
+
     // Adds the wire a XOR b, and answers its number.
     pub fn xor(&mut self, a: u16, b: u16) -> Result<u16, DraftRefusal>
-        ensures adds_or_answers_first_no { Added (drafted self.old) (Xor a b) result (drafted self.new) }
+        ensures adds_or_answers_first_no { Added (drafted self.old) (Step.Gate (Gate.Xor a b)) result (drafted self.new) }
     {
-        let step = Step::Xor(a, b);
-        self.admit(step)?;
-        let form = self.xor_form(a, b)?;
-        self.append(step, form)
+        self.add(Gate::Xor(a, b))
     }
 
     // Adds the wire a AND b, and answers its number.
     pub fn and(&mut self, a: u16, b: u16) -> Result<u16, DraftRefusal>
-        ensures adds_or_answers_first_no { Added (drafted self.old) (And a b) result (drafted self.new) }
+        ensures adds_or_answers_first_no { Added (drafted self.old) (Step.Gate (Gate.And a b)) result (drafted self.new) }
     {
-        let step = Step::And(a, b);
-        self.admit(step)?;
-        match and_form(self.heap, self.form(a), self.form(b))? {
-            Some(form) => self.append(step, form),
-            None => self.append_node(a, b),
-        }
+        self.add(Gate::And(a, b))
     }
 
     // Adds the complement of the wire a, and answers its number.
     pub fn inv(&mut self, a: u16) -> Result<u16, DraftRefusal>
-        ensures adds_or_answers_first_no { Added (drafted self.old) (Inv a) result (drafted self.new) }
+        ensures adds_or_answers_first_no { Added (drafted self.old) (Step.Gate (Gate.Inv a)) result (drafted self.new) }
     {
-        let step = Step::Inv(a);
-        self.admit(step)?;
-        let form = self.inverted_form(a)?;
-        self.append(step, form)
-    }
-
-    // Whether there is a wire w.
-    fn exists(&self, w: u16) -> bool
-        ensures tells_if_it_exists { result ≡ nat_lt w (wire_count (drafted self.now)) }
-    {
-        w < self.wires()
+        self.add(Gate::Inv(a))
     }
 
     // Marks a wire as the next output, and answers that output's number.
     pub fn output(&mut self, w: u16) -> Result<u16, DraftRefusal>
         ensures marks_or_answers_first_no { Marked (drafted self.old) w result (drafted self.new) }
     {
-        if !self.exists(w) {
+        if w >= self.wires() {
             return Err(DraftRefusal::NoSuchWire);
         }
         let k = self.outputs();

@@ -8,6 +8,7 @@ use crate::lists::item;
 use crate::wire::{Node, Wire};
 use form::Form;
 
+// The counts are the draft's, and a network says more of them.
 impl Network {
     // How many inputs there are.
     pub fn inputs(&self) -> u16
@@ -52,7 +53,7 @@ impl Network {
         ensures is_node_i { MatchOption result (node_count (sealed self.now) ≤ i) (λ d. (i < node_count (sealed self.now)) × (node_shape d.now ≡ node_at (sealed self.now) i)) }
         ensures sets_are_proper { IfSome result (λ d. proper_node ((sealed self.now).inputs + i) (node_shape d.now) ≡ true) }
     {
-        item(self.draft.nodes.as_slice(), i)
+        item(&self.draft.nodes, i)
     }
 
     // The form of output j, where there is one.
@@ -60,7 +61,6 @@ impl Network {
         ensures is_form_of_output_j { MatchOption result (output_count (sealed self.now) ≤ j) (λ f. (j < output_count (sealed self.now)) × (shape f.now ≡ output_form (sealed self.now) j)) }
         ensures form_is_in_the_basis { IfSome result (λ f. within ((sealed self.now).inputs + node_count (sealed self.now)) (shape f.now) ≡ true) }
     {
-        let wire = *item(self.output_wires(), j)?;
-        Some(self.draft.form(wire))
+        self.draft.form(*item(&self.draft.outputs, j)?)
     }
 }

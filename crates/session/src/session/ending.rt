@@ -11,9 +11,10 @@ use sinks::Sink;
 impl<'n, S: Sink> Session<'n, S> {
     // Ends the session: winds every standing move back unless all is done, closes the sink and hands
     // it back.
+    #[tactic(auto, using(sinks::proofs::Chains::kept_none))]
     pub fn end(mut self, token: EndToken) -> Ended<S>
-        ensures answers_first_no { S.Sink.sound self.entry.sink → result.answer ≡ first_no (end_asked S.Sink.meaning self.entry) }
-        ensures hands_back_closed { S.Sink.sound self.entry.sink → HandedBack S.Sink.meaning S.Sink.sound S.Sink.shut self.entry.sink result.answer result.sink }
+        ensures answers_first_no { result.answer ≡ first_no (end_asked S.Sink.meaning self.entry) }
+        ensures hands_back_closed { HandedBack S.Sink.meaning S.Sink.took S.Sink.shut self.entry.sink result.answer result.sink }
     {
         token.spend();
         let answer = self.ask_end();

@@ -14,7 +14,7 @@ loop-wire-preserved g c =
     let vs = vec_items c.loop-wire.values in
     wire_run R x c.wires-wire-items.result.now (sealed c.args.network.now).body.wires c.wires-wire-items.ensures.are_the_wires c.loop-wire.wire-index
     w (map m vs) _ _ (m c.value_of_step.result) c.loop-wire-test.true c.wire-item.is
-    (c.value_of_step.ensures.is_value_of_step ∙ ap (λ t. step_value R x (map m t) w.step) c.as_slice.ensures.value)
+    (c.value_of_step.ensures.is_value_of_step ∙ ap (λ t. step_value R x (map m t) w.step) c.deref.ensures.value)
     (ap (map m) c.in_ok-push.ensures.items ∙ map_push m vs c.value_of_step.result)
     c.loop-wire.invariant
 

@@ -1,6 +1,7 @@
-use Rattle.std.proofs.Common.{◌≡◌, drop}
+use Rattle.std.proofs.Common.{◌≡◌, map}
+use mathlib.Core.List.{reverse}
 use Rattle.values.specs.Words.{word_of}
 use Rattle.evaluation.proofs.words.packed.Given as goal
 
-abbrev pub invariant-loop-i : goal.invariant-loop-i
-invariant-loop-i l = l.word ≡ word_of (drop l.i l.flags)
+abbrev pub invariant-loop-flag : goal.invariant-loop-flag
+invariant-loop-flag l = (goal.iterator-loop-flag).can_next l.flag-iterator × (goal.iterator-loop-flag).is_finite l.flag-iterator × (l.word ≡ word_of (reverse (map (λ b. b.now) l.yielded)))

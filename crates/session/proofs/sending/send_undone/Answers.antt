@@ -1,32 +1,32 @@
-use Rattle.std.proofs.Common.{◌≡◌, ◌<◌, length, Ok, ◌∙◌, subst, arith}
-use Rattle.circuit.specs.declared.Gate.TheVariants.{Not}
-use Rattle.sinks.specs.Meaning.{answer}
+use Rattle.std.proofs.Common.{rules, ◌≡◌, true, List, [], ◌∷◌, ◌++◌, map, reverse, Bor, refl, sym, ap, ◌∙◌, subst}
+use Rattle.std.proofs.lemmas.List.{map-append, reverse-append}
+use Rattle.std.specs.Slice.Iter.{iter_rest}
+use Rattle.circuit.specs.declared.Gate.{Gate}
+use Rattle.circuit.specs.Gates.{inverse}
 use Rattle.moves.specs.Fans.{undone}
-use Rattle.session.proofs.Offers.{kept_same, kept_twice}
-use Rattle.session.proofs.Going.{goes_start, goes_step, goes_end}
-use Rattle.moves.proofs.Undoing.{length_undone, get_or_undone}
+use Rattle.sinks.specs.Sending.{Taken}
 use Rattle.session.proofs.sending.send_undone.Goals as goal
 
-pub loop-k-init : goal.loop-k-init
-loop-k-init g c = (kept_same c.args.sink.now, λ h. goes_start g.S.Sink.laws c.args.sink.now (undone c.args.gates.now))
+inverse_backwards : (gs : List Gate) → map inverse (reverse gs) ≡ undone gs
+inverse_backwards [] = refl
+inverse_backwards (g ∷ gs) =
+    ap (map inverse) (reverse-append (g ∷ []) gs) ∙ map-append inverse (reverse gs) (g ∷ [])
+    ∙ ap (λ hs. hs ++ (inverse g ∷ [])) (inverse_backwards gs) ∙ sym (reverse-append (inverse g ∷ []) (map inverse gs))
 
-pub loop-k-preserved : goal.loop-k-preserved
-loop-k-preserved g c =
-    let s = c.loop-k.sink in
-    let t = c.send.new.sink in
-    let inv = c.loop-k.invariant in
-    let gs = c.args.gates.now in
-    let l : c.loop-k.k < length (undone gs) = omega (arith, length_undone gs) in
-    let e = c.inverse.ensures.is_inverse ∙ get_or_undone gs c.loop-k.k (Not 0) c.loop-k-test.true in (
-      kept_twice c.args.sink.now s t inv.0 c.send.ensures.keeps_sound,
-      λ h. goes_step g.S.Sink.laws c.args.sink.now s t (undone gs) (undone gs) c.loop-k.k (Not 0) l (inv.0 h).still (inv.1 h)
-          (subst (λ x. answer x (g.S.Sink.meaning s) ≡ Ok tt → g.S.Sink.took s x t) e (c.send.ensures.taken_if_fit (inv.0 h).still)),
-    )
+inverse_behind : (ys : List (Bor Gate)) → map (λ y. inverse y.now) ys ≡ map inverse (map (λ y. y.now) ys)
+inverse_behind [] = refl
+inverse_behind (y ∷ ys) = ap (λ hs. inverse y.now ∷ hs) (inverse_behind ys)
 
-pub returns : goal.returns
-returns g c =
-    let gs = c.args.gates.now in
-    record {
-      keeps_sound = c.loop-k.invariant.0;
-      all_undone_in_order = λ h. goes_end g.S.Sink.laws c.args.sink.now c.loop-k.sink (undone gs) (undone gs) c.loop-k.k (omega (arith, length_undone gs, c.loop-k-test.false)) (c.loop-k.invariant.1 h);
-    }
+pub returns-clause-all_undone_in_order : goal.returns-clause-all_undone_in_order
+returns-clause-all_undone_in_order g c =
+    let k = g.S.Sink in
+    let t = c.send_all.ensures.all_taken_in_order in
+    let u = c.map.ensures.runs t.0 t.0.seen t.1 in
+    let v = c.rev.ensures.runs u.0 u.0.seen u.1 in
+    let w = c.iter.ensures.runs_back v.0 v.0.seen in
+    let whole : v.0.whole ≡ true = cc in
+    let sent : t.0.items ≡ map (λ y. inverse y.now) u.0.items = u.2.3 (λ y. inverse y.now) (λ x r q h. search rules) in
+    let same : u.0.items ≡ v.0.items = cc in
+    let all = sent ∙ inverse_behind u.0.items ∙ ap (λ ys. map inverse (map (λ y. y.now) ys)) same ∙ ap (map inverse) (w.4 whole ∙ ap (λ it. reverse (iter_rest it)) v.1 ∙ ap reverse c.iter.ensures.rest)
+    ∙ inverse_backwards c.args.gates.now in
+    subst (λ gs. Taken k.meaning k.took c.args.sink.now gs c.send_all.new.sink) all t.3

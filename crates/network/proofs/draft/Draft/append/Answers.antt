@@ -1,38 +1,29 @@
-use Rattle.std.proofs.Common.{is_ok, vec_items, vec_len, sym, ap, ◌∙◌, rules}
-use Rattle.network.specs.Wires.{Body, Net, body_of}
-use Rattle.network.specs.declared.wire.Wire.{Wire}
+use Rattle.std.proofs.Common.{is_ok, vec_items, vec_len, rules}
 use Rattle.form.proofs.Below.{below_more}
-use Rattle.network.proofs.Grows.{built_cases, valid_cases, body_push}
+use Rattle.network.specs.declared.wire.Step.TheVariants.{Gate}
+use Rattle.network.specs.declared.wire.Wire.{Wire}
+use Rattle.network.proofs.Grows.{built_cases, valid_cases}
 use Rattle.network.proofs.Kept.{forms_kept}
-use Rattle.network.proofs.Questions.{wires_counted}
 use Rattle.network.proofs.draft.Draft.append.Goals as goal
 
-pub invariant_of-self : goal.invariant_of-self
-invariant_of-self c =
+pub invariant_of-self-clause-by_the_rules : goal.invariant_of-self-clause-by_the_rules
+invariant_of-self-clause-by_the_rules c =
     let d = c.args.self.now in
-    let w : Wire = record { step = c.args.step; form = c.args.form } in
-    let ok = is_ok c.push.result in
-    let more = c.push.ensures.items in
-    let counted = wires_counted d in
-    let built = built_cases d.inputs (vec_items d.wires) (vec_items d.nodes) w _ ok more c.requires.right d.by_the_rules in
-    let reads = valid_cases d.inputs (vec_items d.wires) w _ ok more c.requires.passed.reads d.reads_earlier in
-    record {
-      some_input = d.some_input;
-      input_limit = d.input_limit;
-      wire_limit = search rules;
-      node_limit = d.node_limit;
-      output_limit = d.output_limit;
-      by_the_rules = built;
-      reads_earlier = reads;
-      outputs_exist = below_more (vec_items d.outputs) _ _ (search rules) d.outputs_exist;
-      forms_in_basis = forms_kept d.inputs (vec_len d.nodes) _ (vec_items d.nodes) d.nodes.ok.0 built reads;
-      nodes_proper = d.nodes_proper;
-    }
+    let w : Wire = record { step = Gate c.args.gate; form = c.args.form } in
+    built_cases d.inputs (vec_items d.wires) (vec_items d.nodes) w _ (is_ok c.push.result) c.push.ensures.items c.requires.right d.by_the_rules
 
-pub returns : goal.returns
-returns c =
+pub invariant_of-self-clause-reads_earlier : goal.invariant_of-self-clause-reads_earlier
+invariant_of-self-clause-reads_earlier c =
     let d = c.args.self.now in
-    let w : Wire = record { step = c.args.step; form = c.args.form } in
-    let of : Body → Net = λ b. record { inputs = d.inputs; body = b; outputs = vec_items d.outputs } in
-    let grew = ap (λ l. of (body_of l (vec_items d.nodes))) c.in_ok-push.ensures.items in
-    record { appends_unless_out_of_memory = (c.wires-at.ensures.is_the_number_of_wires, grew ∙ ap of (body_push (vec_items d.wires) (vec_items d.nodes) w ∙ sym c.requires.right)) }
+    let w : Wire = record { step = Gate c.args.gate; form = c.args.form } in
+    valid_cases d.inputs (vec_items d.wires) w _ (is_ok c.push.result) c.push.ensures.items c.requires.passed.reads d.reads_earlier
+
+pub invariant_of-self-clause-outputs_exist : goal.invariant_of-self-clause-outputs_exist
+invariant_of-self-clause-outputs_exist c =
+    let d = c.args.self.now in
+    below_more (vec_items d.outputs) (vec_len d.wires) (vec_len c.push.new.self) (search rules) d.outputs_exist
+
+pub invariant_of-self-clause-forms_in_basis : goal.invariant_of-self-clause-forms_in_basis
+invariant_of-self-clause-forms_in_basis c =
+    let d = c.args.self.now in
+    forms_kept d.inputs (vec_len d.nodes) _ (vec_items d.nodes) d.nodes.ok.0 (invariant_of-self-clause-by_the_rules c) (invariant_of-self-clause-reads_earlier c)

@@ -1,54 +1,39 @@
-use Rattle.std.proofs.Common.{◌+◌, true, [], ◌∷◌, ◌++◌, vec_items, vec_len, refl, ap, ◌∙◌, arith}
+use Rattle.std.proofs.Common.{◌≡◌, ◌+◌, true, [], ◌∷◌, ◌++◌, vec_items, vec_len, ap, ◌∙◌, arith}
+use mathlib.Core.Logic.{∥∥₁_map}
 use Rattle.form.specs.Shapes.{element_form}
-use Rattle.network.specs.Drafts.{drafted}
-use Rattle.network.specs.declared.wire.Step.TheVariants.{And}
-use Rattle.network.specs.declared.wire.Wire.{Wire}
 use Rattle.form.proofs.Below.{below_more}
-use Rattle.network.proofs.Grows.{node_after, node_kept, valid_cases}
+use Rattle.network.specs.declared.wire.Step.TheVariants.{Gate}
+use Rattle.network.specs.declared.wire.Wire.{Wire}
+use Rattle.network.proofs.Grows.{built_more, node_added, valid_cases}
 use Rattle.network.proofs.Kept.{forms_kept, nodes_kept}
-use Rattle.network.proofs.Questions.{two_within, accepted, wires_counted, nodes_counted}
 use Rattle.network.proofs.draft.Draft.append_node.Goals as goal
+use Rattle.network.proofs.draft.Draft.append_node.Goals.{After-push_reserved}
 
-pub node_over-requires : goal.node_over-requires
-node_over-requires c = let t = two_within c.args.self.now c.args.a c.args.b c.requires.passed.reads in record { first = t.0; second = t.1 }
+abbrev wire : After-push_reserved → Wire
+wire c = record { step = Gate c.args.gate; form = c.in_ok-form.form }
 
-pub invariant_of-self-2 : goal.invariant_of-self-2
-invariant_of-self-2 c =
+longer : (c : After-push_reserved) → vec_items c.push_reserved.new.self ≡ vec_items c.args.self.now.wires ++ wire c ∷ []
+longer c = c.push_reserved.ensures.items ∙ ap (λ l. l ++ wire c ∷ []) c.reserve.ensures.items
+
+pub invariant_of-self-2-clause-by_the_rules : goal.invariant_of-self-2-clause-by_the_rules
+invariant_of-self-2-clause-by_the_rules c =
     let d = c.args.self.now in
-    let w : Wire = record { step = And c.args.a c.args.b; form = c.in_ok-form.form } in
-    let more = c.push_reserved.ensures.items ∙ ap (λ l. l ++ w ∷ []) c.reserve.ensures.items in
-    let alone = c.in_ok-form.ensures.is_the_element ∙ ap (λ k. element_form (d.inputs + k)) c.nodes-k.ensures.is_the_number_of_nodes in
-    let built =
-    node_kept d.inputs c.args.a c.args.b (vec_items d.wires) (vec_items d.nodes) w c.in_ok-node.node _ _ more c.in_ok-push.ensures.items
-    refl c.requires.due alone c.in_ok-node.ensures.keeps_both_forms d.by_the_rules in
-    let reads = valid_cases d.inputs (vec_items d.wires) w _ true more c.requires.passed.reads d.reads_earlier in
-    record {
-      some_input = d.some_input;
-      input_limit = d.input_limit;
-      wire_limit = omega (arith, c.push_reserved.ensures.len, c.reserve.ensures.len, wires_counted d, c.requires.passed.room);
-      node_limit = omega (arith, c.in_ok-push.ensures.len, nodes_counted d, c.nodes-k.ensures.is_the_number_of_nodes);
-      output_limit = d.output_limit;
-      by_the_rules = built;
-      reads_earlier = reads;
-      outputs_exist = below_more (vec_items d.outputs) (vec_len d.wires) _ (omega (arith, c.push_reserved.ensures.len, c.reserve.ensures.len)) d.outputs_exist;
-      forms_in_basis = forms_kept d.inputs _ _ _ c.push.new.self.ok.0 built reads;
-      nodes_proper = nodes_kept d.inputs _ _ built reads;
-    }
+    let alone = c.in_ok-form.ensures.is_the_element ∙ ap (λ k. element_form (d.inputs + k)) c.nodes.ensures.is_the_number_of_nodes in
+    let more = node_added d.inputs (vec_items d.wires) (vec_items d.nodes) (wire c) _ _ c.args.node (longer c) c.in_ok-push.ensures.items alone c.requires.right in
+    ∥∥₁_map d.by_the_rules (built_more d.inputs (vec_items d.wires) (vec_items d.nodes) (wire c) _ _ (longer c) more)
 
-pub returns : goal.returns
-returns c =
+pub invariant_of-self-2-clause-reads_earlier : goal.invariant_of-self-2-clause-reads_earlier
+invariant_of-self-2-clause-reads_earlier c =
+    let d = c.args.self.now in valid_cases d.inputs (vec_items d.wires) (wire c) _ true (longer c) c.requires.passed.reads d.reads_earlier
+
+pub invariant_of-self-2-clause-outputs_exist : goal.invariant_of-self-2-clause-outputs_exist
+invariant_of-self-2-clause-outputs_exist c =
     let d = c.args.self.now in
-    let g = And c.args.a c.args.b in
-    let w : Wire = record { step = g; form = c.in_ok-form.form } in
-    let more = c.push_reserved.ensures.items ∙ ap (λ l. l ++ w ∷ []) c.reserve.ensures.items in
-    let alone = c.in_ok-form.ensures.is_the_element ∙ ap (λ k. element_form (d.inputs + k)) c.nodes-k.ensures.is_the_number_of_nodes in
-    let after =
-    node_after d.inputs c.args.a c.args.b (vec_items d.wires) (vec_items d.nodes) w c.in_ok-node.node _ _ more c.in_ok-push.ensures.items
-    refl c.requires.due alone c.in_ok-node.ensures.keeps_both_forms in
-    record {
-      adds_or_answers_first_no = (
-        accepted (drafted d) g c.requires.passed (omega (arith, c.nodes-k.ensures.is_the_number_of_nodes)),
-        c.wires-at.ensures.is_the_number_of_wires,
-        ap (λ b. record { inputs = d.inputs; body = b; outputs = vec_items d.outputs }) after,
-      );
-    }
+    below_more (vec_items d.outputs) (vec_len d.wires) _ (omega (arith, c.push_reserved.ensures.len, c.reserve.ensures.len)) d.outputs_exist
+
+pub invariant_of-self-2-clause-forms_in_basis : goal.invariant_of-self-2-clause-forms_in_basis
+invariant_of-self-2-clause-forms_in_basis c =
+    forms_kept c.args.self.now.inputs _ _ _ c.push.new.self.ok.0 (invariant_of-self-2-clause-by_the_rules c) (invariant_of-self-2-clause-reads_earlier c)
+
+pub invariant_of-self-2-clause-nodes_proper : goal.invariant_of-self-2-clause-nodes_proper
+invariant_of-self-2-clause-nodes_proper c = nodes_kept c.args.self.now.inputs _ _ (invariant_of-self-2-clause-by_the_rules c) (invariant_of-self-2-clause-reads_earlier c)

@@ -1,6 +1,5 @@
-use Rattle.std.proofs.Common.{◌≡◌, true, vec_items, vec_len, sym, ap, subst, arith}
-use Rattle.form.specs.Sets.{all_below}
-use Rattle.network.specs.Wires.{valid, steps_of}
+use Rattle.std.proofs.Common.{◌≡◌, true, vec_items, sym, subst, arith}
+use Rattle.network.specs.Wires.{valid}
 use Rattle.network.proofs.Grows.{Built, inputs_step, valid_inputs}
 use Rattle.network.proofs.Kept.{forms_kept, nodes_kept}
 use Rattle.network.proofs.draft.Draft.new.Goals as goal
@@ -11,20 +10,16 @@ loop-i-preserved c =
     let s = inputs_step c.args.n c.loop-i.i (vec_items c.loop-i.wires) _ c.in_ok-input_wire.field-0 (omega (arith, c.loop-i.wires.ok.0)) c.in_ok-push.ensures.items c.in_ok-input_wire.ensures.is_the_input inv.1 inv.2 in
     (omega (arith, c.in_ok-push.ensures.len), s.0, s.1)
 
-pub invariant_of-result : goal.invariant_of-result
-invariant_of-result c =
-    let inv = c.loop-i.invariant in
-    let fine : valid c.args.n 0 (steps_of (vec_items c.loop-i.wires)) ≡ true = subst (λ l. valid c.args.n 0 l ≡ true) (sym inv.1) (valid_inputs c.args.n 0 c.loop-i.i (omega arith)) in
-    let built : Built c.args.n (vec_items c.loop-i.wires) (vec_items c.new.result) = subst (Built c.args.n (vec_items c.loop-i.wires)) (sym c.new.ensures.items) inv.2 in
-    record {
-      some_input = omega arith;
-      input_limit = omega arith;
-      wire_limit = omega arith;
-      node_limit = omega arith;
-      output_limit = omega arith;
-      by_the_rules = ∣ built ∣₁;
-      reads_earlier = fine;
-      outputs_exist = ap (λ l. all_below l (vec_len c.loop-i.wires)) c.new-2.ensures.items;
-      forms_in_basis = forms_kept c.args.n _ _ _ c.new.result.ok.0 ∣ built ∣₁ fine;
-      nodes_proper = nodes_kept c.args.n _ _ ∣ built ∣₁ fine;
-    }
+pub invariant_of-result-clause-by_the_rules : goal.invariant_of-result-clause-by_the_rules
+invariant_of-result-clause-by_the_rules c =
+    ∣ subst (Built c.args.n (vec_items c.loop-i.wires)) (sym c.new-2.ensures.items) c.loop-i.invariant.2 ∣₁
+
+pub invariant_of-result-clause-reads_earlier : goal.invariant_of-result-clause-reads_earlier
+invariant_of-result-clause-reads_earlier c =
+    let inv = c.loop-i.invariant in subst (λ l. valid c.args.n 0 l ≡ true) (sym inv.1) (valid_inputs c.args.n 0 c.loop-i.i (omega arith))
+
+pub invariant_of-result-clause-forms_in_basis : goal.invariant_of-result-clause-forms_in_basis
+invariant_of-result-clause-forms_in_basis c = forms_kept c.args.n _ _ _ c.new-2.result.ok.0 (invariant_of-result-clause-by_the_rules c) (invariant_of-result-clause-reads_earlier c)
+
+pub invariant_of-result-clause-nodes_proper : goal.invariant_of-result-clause-nodes_proper
+invariant_of-result-clause-nodes_proper c = nodes_kept c.args.n _ _ (invariant_of-result-clause-by_the_rules c) (invariant_of-result-clause-reads_earlier c)

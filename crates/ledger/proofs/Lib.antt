@@ -1,2 +1,0 @@
-pub mod Pasts
-pub mod Scans

@@ -1,7 +1,0 @@
-use Rattle.std.proofs.Common.{length, vec_items, sym, ap, ◌∙◌}
-use Rattle.std.proofs.lemmas.List.{length-map}
-use Rattle.network.specs.Wires.{node_shape}
-use Rattle.network.proofs.draft.Draft.nodes.Goals as goal
-
-pub returns : goal.returns
-returns c = record { is_the_number_of_nodes = c.count.ensures.is_their_number ∙ ap length c.as_slice.ensures.value ∙ sym (length-map (vec_items c.args.self.now.nodes) node_shape) }
