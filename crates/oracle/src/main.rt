@@ -1,6 +1,9 @@
 // Reads a Bristol Fashion text from standard input, compiles its network and prints the oracle circuit.
 #![tactic(auto)]
 
+ghost use Rattle.std.specs.Prelude.{◌≡◌};
+ghost use Rattle.oracle.specs.declared.Failure.TheVariants.{Reading, Making, Compiling, Memory, Io};
+
 use bristol::read_network;
 use network::Network;
 use record::Record;
@@ -18,45 +21,53 @@ const TEXT_BYTES: u64 = 65_536;
 // The bytes of the record that a circuit is compiled into.
 const RECORD_BYTES: usize = 65_536;
 
-// Why there is no circuit: the text is refused, or reading fails or memory is wanting.
+// Why there is no circuit: the text is refused, or memory is wanting or reading fails.
 #[derive(Drop)]
 enum Failure {
     Reading(TextRefusal),
     Making(MakeRefusal),
     Compiling(SessionRefusal),
+    Memory(AllocError),
     Io(io::Error),
 }
 
-impl From<io::Error> for Failure {
-    fn from(error: io::Error) -> Failure {
-        Failure::Io(error)
-    }
-}
-
-impl From<AllocError> for Failure {
-    fn from(error: AllocError) -> Failure {
-        Failure::Io(io::Error::from(error))
-    }
-}
-
 impl From<TextRefusal> for Failure {
+    ghost from_gives = { λ refusal r. r ≡ Reading refusal };
+
     fn from(refusal: TextRefusal) -> Failure {
-        match refusal {
-            TextRefusal::Draft(DraftRefusal::OutOfMemory) => Failure::from(AllocError),
-            _ => Failure::Reading(refusal),
-        }
+        Failure::Reading(refusal)
     }
 }
 
 impl From<MakeRefusal> for Failure {
+    ghost from_gives = { λ refusal r. r ≡ Making refusal };
+
     fn from(refusal: MakeRefusal) -> Failure {
         Failure::Making(refusal)
     }
 }
 
 impl From<SessionRefusal> for Failure {
+    ghost from_gives = { λ refusal r. r ≡ Compiling refusal };
+
     fn from(refusal: SessionRefusal) -> Failure {
         Failure::Compiling(refusal)
+    }
+}
+
+impl From<AllocError> for Failure {
+    ghost from_gives = { λ error r. r ≡ Memory error };
+
+    fn from(error: AllocError) -> Failure {
+        Failure::Memory(error)
+    }
+}
+
+impl From<io::Error> for Failure {
+    ghost from_gives = { λ error r. r ≡ Io error };
+
+    fn from(error: io::Error) -> Failure {
+        Failure::Io(error)
     }
 }
 
@@ -111,6 +122,10 @@ fn main(rt: HostRuntime) -> io::Result<ExitCode> {
         Ok(listing) => {
             rt.print(listing)?;
             Ok(ExitCode::SUCCESS)
+        }
+        Err(Failure::Memory(error)) => Err(io::Error::from(error)),
+        Err(Failure::Reading(TextRefusal::Draft(DraftRefusal::OutOfMemory))) => {
+            Err(io::Error::from(AllocError))
         }
         Err(Failure::Reading(refusal)) => refused(&rt, refusal),
         Err(Failure::Making(refusal)) => refused(&rt, refusal),
