@@ -12,7 +12,8 @@ use network::{Draft, Gate, Network};
 use refusals::{DraftRefusal, TextRefusal};
 use std::alloc::{AllocError, Global};
 
-// A draft under way, and for each wire of the text, 0 to the last, the draft's wire, once it is given.
+// A draft under way, and for each wire of the text, 0 to the last (so a vector, and no map), the draft's wire, once it is
+// given.
 #[derive(Drop)]
 pub(crate) struct Builder {
     draft: Draft,

@@ -1,6 +1,6 @@
 #![tactic(auto)]
 
-// Tests of what networks evaluate to, over bits, words and polynomials.
+// Tests of what networks evaluate to, over bits, words and polynomials. A test goes over a table of rows of its own.
 #[cfg(test)]
 mod forms_agree;
 #[cfg(test)]

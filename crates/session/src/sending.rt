@@ -1,4 +1,5 @@
-// Gates offered to a sink one after the other.
+// Gates offered to a sink one after the other. `Kept` ties what a function leaves to what it found: no fact of one sink, so
+// each says it.
 ghost use Rattle.std.specs.Prelude.{◌≡◌, Some, Ok};
 ghost use Rattle.std.specs.Iterator.{IsFinite};
 ghost use Rattle.std.specs.Iterator.Runs.{WholeRun};
