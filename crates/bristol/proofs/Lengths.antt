@@ -4,11 +4,13 @@ use Rattle.scan.specs.Cuts.{Piece}
 use Rattle.network.specs.Wires.{Net}
 use Rattle.bristol.specs.Answers.{and_then, Answered}
 use Rattle.bristol.specs.Building.{Building, opened, added, marked, finished}
-use Rattle.bristol.specs.Reading.{Reading, then_read, number_first, sum_first, width_first, header_first, line_first, end_first}
+use Rattle.bristol.specs.Reading.{Reading, then_read, worth_or_no, number_first, operation_first, sum_first, width_first, header_first, line_first, end_first}
 use Rattle.bristol.specs.Refusals.{is_too_long}
 use Rattle.bristol.specs.Texts.{gates_first, read_pieces}
 use Rattle.bristol.specs.declared.gate.GateLine.{GateLine}
+use Rattle.refusals.specs.declared.draft.DraftRefusal.TheVariants.{OutOfMemory}
 use Rattle.refusals.specs.declared.text.TextRefusal.{TextRefusal}
+use Rattle.refusals.specs.declared.text.TextRefusal.TheVariants.{TooLong, Draft}
 
 abbrev is_30 : {Y : Type 0} → Result Y ℕ → Bool
 is_30 (Ok y) = false
@@ -25,8 +27,15 @@ other_read : {X Y : Type 0} (m : Reading X) (f : X → List Piece → Result Y �
 other_read (Ok (x, ps)) f p q = q x ps
 other_read (Err n) f p q = record { other = p.other }
 
+other_worth : (o : Option ℕ) (ps : List Piece) → Other (worth_or_no o ps)
+other_worth None ps = record { other = refl }
+other_worth (Some n) ps = record { other = refl }
+
 other_number : (ps : List Piece) → Other (number_first ps)
 other_number ps = record { other = grind arith }
+
+other_operation : (ps : List Piece) → Other (operation_first ps)
+other_operation ps = record { other = grind arith }
 
 other_sum : (k s : ℕ) (ps : List Piece) → Other (sum_first k s ps)
 other_sum zero s ps = record { other = refl }
@@ -44,6 +53,10 @@ other_header ps =
 
 other_line : (ps : List Piece) → Other (line_first ps)
 other_line ps = record { other = grind arith }
+
+other_end : (ps : List Piece) → Other (end_first ps)
+other_end [] = record { other = refl }
+other_end (p ∷ ps) = record { other = refl }
 
 other_added : (b : Building) (line : GateLine) → Other (added b line)
 other_added b line = record { other = grind arith }
@@ -67,8 +80,14 @@ other_pieces ps =
     other_read (header_first ps) _ (other_header ps)
     (λ h ps1. other_then (opened h.inputs h.wires) _ (record { other = grind arith })
     (λ b. other_read (gates_first h.gates b ps1) _ (other_gates h.gates b ps1)
-    (λ c ps2. other_read (end_first ps2) _ (record { other = grind arith }) (λ _ _. other_finished h.outputs c))))
+    (λ c ps2. other_read (end_first ps2) _ (other_end ps2) (λ _ _. other_finished h.outputs c))))
+
+never : TooLong ≡ Draft OutOfMemory → ⊥
+never e = cc
+
+answered : {X Y : Type 0} (f : X → Y) (r : Result X TextRefusal) (m : Result Y ℕ) → Other m → Answered f r m → is_too_long r ≡ false
+answered f r m p h = grind (arith, p.other)
 
 -- a text that is read is not refused as too long
 pub not_too_long : {X : Type 0} (f : X → Net) (r : Result X TextRefusal) (ps : List Piece) → Answered f r (read_pieces ps) → is_too_long r ≡ false
-not_too_long f r ps h = grind (arith, (other_pieces ps).other)
+not_too_long f r ps h = answered f r (read_pieces ps) (other_pieces ps) h

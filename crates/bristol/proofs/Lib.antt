@@ -1,3 +1,5 @@
+pub mod Builds
 pub mod Gates
 pub mod Lengths
+pub mod Marks
 pub mod Sums

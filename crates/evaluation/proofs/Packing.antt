@@ -1,5 +1,5 @@
 -- Words of bits, one bit more.
-use Rattle.std.proofs.Common.{◌≡◌, ℕ, ◌+◌, ◌*◌, ◌^◌, ◌<◌, ◌≤◌, Bool, true, false, cond, List, [], ◌∷◌, ◌++◌, map, length, get_or, sym, refl, ap, ◌∙◌, ⊎_elim, pow-suc, arith, lit<, Bor, pow_mono}
+use Rattle.std.proofs.Common.{◌≡◌, ℕ, ◌+◌, ◌*◌, ◌^◌, ◌<◌, ◌≤◌, Bool, true, false, cond, List, [], ◌∷◌, ◌++◌, map, length, get_or, drop, sym, refl, ap, ◌∙◌, ⊎_elim, pow-suc, arith, lit<, length-drop, Bor, pow_mono}
 use mathlib.Core.Path.{fun_ext}
 use mir.Val.{bool_byte}
 use mathlib.Core.List.{reverse}
@@ -19,8 +19,10 @@ word_lt (b ∷ bs) = omega (arith, bit b, word_lt bs, pow-suc 2 (length bs))
     bit true = omega arith
     bit false = omega arith
 
-pub word_fits : (bs : List Bool) → length bs ≤ 64 → word_of bs < 18446744073709551616
-word_fits bs l = omega (arith, word_lt bs, pow_mono l)
+pub word_fits : (bs : List Bool) (k : ℕ) → length bs ≤ 64 → word_of (drop k bs) < 18446744073709551616
+word_fits bs k l =
+    let short : length (drop k bs) ≤ 64 = omega (arith, length-drop k bs) in
+    omega (arith, word_lt (drop k bs), pow_mono short)
 
 -- r and w are a further bit and the word of those before it
 module _ (ys : List (Bor Bool)) (y : Bor Bool) (r w : ℕ) (is : r ≡ bool_byte y.now) (h : w ≡ word_of (reverse (map (λ b. b.now) ys))) where
@@ -37,7 +39,7 @@ module _ (ys : List (Bor Bool)) (y : Bor Bool) (r w : ℕ) (is : r ≡ bool_byte
   pub packed_fits : length ys < 64 → r + 2 * w < 18446744073709551616
   packed_fits l =
       let long : length (y.now ∷ reverse (map (λ b. b.now) ys)) ≤ 64 = omega (arith, length-reverse (map (λ (b : Bor Bool). b.now) ys), length-map ys (λ b. b.now)) in
-      omega (arith, bit_packed ∙ ap word_of further, word_fits (y.now ∷ reverse (map (λ b. b.now) ys)) long)
+      omega (arith, bit_packed ∙ ap word_of further, word_fits (y.now ∷ reverse (map (λ b. b.now) ys)) 0 long)
 
 -- a bit means itself
 pub bits_meant : (bs : List Bool) → map (λ b. b) bs ≡ bs

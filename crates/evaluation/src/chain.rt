@@ -11,7 +11,7 @@ use values::Algebra;
 fn value_at<V: Algebra>(values: &[V], i: usize) -> V
     ensures is_value_i_or_zero { V.meaning result ≡ slice_index_or (map V.meaning values.now) i V.ring.zero }
 {
-    values.get(i).copied().unwrap_or(V::zero())
+    values.get(i).copied().unwrap_or_else(|| V::zero())
 }
 
 // The value of a wire, after wires with these values.

@@ -1,8 +1,5 @@
 -- Sets as ascending lists: how a merge goes on.
-use Rattle.std.proofs.Common.{◌≡◌, ℕ, ◌<◌, ◌≤◌, true, eqb, ltb, ◌⊎◌, List, [], ◌∷◌, ◌++◌, length, sym, refl, ap, ◌∙◌, subst, inl, inr, ⊎_elim, append_assoc, append-nil, arith}
-use Rattle.std.proofs.lemmas.Cmp.{ranked}
-use Rattle.std.specs.Ordering.{nat_cmp}
-use Rattle.std.specs.declared.cmp.Ordering.TheVariants.{Less, Equal, Greater}
+use Rattle.std.proofs.Common.{◌≡◌, ℕ, zero, suc, ◌<◌, ◌≤◌, true, eqb, ltb, ◌+◌, ◌⊎◌, List, [], ◌∷◌, ◌++◌, length, drop, sym, refl, ap, ◌∙◌, subst, inl, inr, ⊎_elim, append_assoc, append-nil, arith}
 use Rattle.std.proofs.lemmas.Bool.{ltb-true, lt-ltb, le-ltb, eq-eqb, ne_eqb, and_parts, and_from, cond-true, cond-false, cases_order}
 use Rattle.form.specs.Sets.{below_first, ascending, toggle, symmetric_difference}
 
@@ -90,6 +87,11 @@ pub merge_none : (xs : List ℕ) → Asc xs → symmetric_difference xs [] ≡ x
 merge_none [] h = refl
 merge_none (x ∷ xs) h = ap (toggle x) (merge_none xs (asc_rest x xs h)) ∙ toggle_low x xs h
 
+pub asc_drop : (i : ℕ) (xs : List ℕ) → Asc xs → Asc (drop i xs)
+asc_drop zero xs h = h
+asc_drop (suc i) [] h = refl
+asc_drop (suc i) (x ∷ xs) h = asc_drop i xs (asc_rest x xs h)
+
 pushed : (out more whole rest end : List ℕ) (x : ℕ) → more ≡ out ++ x ∷ [] → whole ≡ x ∷ rest → out ++ whole ≡ end → more ++ rest ≡ end
 pushed out more whole rest end x p w h = ap (λ l. l ++ rest) p ∙ append_assoc out (x ∷ []) rest ∙ ap (λ l. out ++ l) (sym w) ∙ h
 
@@ -99,6 +101,11 @@ pub record Merging (out a b all : List ℕ) : Type 0 where
   pub right : Asc b
   pub merged : out ++ symmetric_difference a b ≡ all
 
+-- and there is room for all that is left
+pub record MergingInto (len capacity : ℕ) (out a b all : List ℕ) : Type 0 where
+  pub merging : Merging out a b all
+  pub room : len + length a + length b ≤ capacity
+
 -- a is x and a', and b is y and b'
 module _ (out a b a' b' all : List ℕ) (x y : ℕ) (p : a ≡ x ∷ a') (q : b ≡ y ∷ b') (h : Merging out a b all) where
   asc_a : Asc (x ∷ a')
@@ -107,25 +114,25 @@ module _ (out a b a' b' all : List ℕ) (x y : ℕ) (p : a ≡ x ∷ a') (q : b 
   asc_b : Asc (y ∷ b')
   asc_b = subst Asc q h.right
 
-  pub takes_left : (more : List ℕ) → Less ≡ nat_cmp x y → more ≡ out ++ x ∷ [] → Merging more a' b all
+  pub takes_left : (more : List ℕ) → x < y → more ≡ out ++ x ∷ [] → Merging more a' b all
   takes_left more l m = record {
     left = asc_rest x a' asc_a;
     right = h.right;
-    merged = pushed out more _ _ all x m (rw (p, q) (merge_left x y a' b' (ranked x y Less l) asc_a asc_b)) h.merged;
+    merged = pushed out more _ _ all x m (rw (p, q) (merge_left x y a' b' l asc_a asc_b)) h.merged;
   }
 
-  pub takes_right : (more : List ℕ) → Greater ≡ nat_cmp x y → more ≡ out ++ y ∷ [] → Merging more a b' all
+  pub takes_right : (more : List ℕ) → y < x → more ≡ out ++ y ∷ [] → Merging more a b' all
   takes_right more l m = record {
     left = h.left;
     right = asc_rest y b' asc_b;
-    merged = pushed out more _ _ all y m (rw (p, q) (merge_right x y a' b' (ranked x y Greater l) asc_a)) h.merged;
+    merged = pushed out more _ _ all y m (rw (p, q) (merge_right x y a' b' l asc_a)) h.merged;
   }
 
-  pub takes_none : Equal ≡ nat_cmp x y → Merging out a' b' all
+  pub takes_none : x ≡ y → Merging out a' b' all
   takes_none l = record {
     left = asc_rest x a' asc_a;
     right = asc_rest y b' asc_b;
-    merged = ap (λ s. out ++ s) (sym (rw (p, q) (merge_both x y a' b' (ranked x y Equal l) asc_a))) ∙ h.merged;
+    merged = ap (λ s. out ++ s) (sym (rw (p, q) (merge_both x y a' b' l asc_a))) ∙ h.merged;
   }
 
 -- one side is used up

@@ -1,6 +1,6 @@
 -- The inverses of a list of gates, the last first: how many, and which.
-use Rattle.std.proofs.Common.{◌≡◌, ℕ, ◌-◌, ◌<◌, List, [], ◌∷◌, ◌++◌, map, reverse, length, get_or, sym, refl, ap, ◌∙◌, arith}
-use Rattle.std.proofs.lemmas.List.{append_assoc, map-append, reverse-append, length-reverse, length-map, get_or-reverse, get_or-map}
+use Rattle.std.proofs.Common.{◌≡◌, ℕ, ◌+◌, ◌-◌, ◌*◌, ◌<◌, List, [], ◌∷◌, ◌++◌, map, reverse, length, get_or, sym, refl, ap, ◌∙◌, arith}
+use Rattle.std.proofs.lemmas.List.{append_assoc, map-append, reverse-append, length-append, length-reverse, length-map, get_or-reverse, get_or-map}
 use Rattle.circuit.specs.declared.Gate.{Gate}
 use Rattle.circuit.specs.declared.Gate.TheVariants.{Not, Cnot, And, Unand}
 use Rattle.circuit.specs.Gates.{inverse}
@@ -8,6 +8,9 @@ use Rattle.moves.specs.Fans.{undone}
 
 pub length_undone : (gs : List Gate) → length (undone gs) ≡ length gs
 length_undone gs = length-reverse (map inverse gs) ∙ length-map gs inverse
+
+pub length_around : (gs : List Gate) (g : Gate) → length (gs ++ (g ∷ undone gs)) ≡ 2 * length gs + 1
+length_around gs g = omega (arith, length-append gs (g ∷ undone gs), length_undone gs)
 
 pub get_or_undone : (gs : List Gate) (k : ℕ) (d : Gate) → k < length gs → inverse (get_or gs (length gs - 1 - k) d) ≡ get_or (undone gs) k (inverse d)
 get_or_undone gs k d h =

@@ -1,5 +1,6 @@
 pub mod Grows
 pub mod Counts
+pub mod Questions
 pub mod Lookups
 pub mod Proper
 pub mod Kept

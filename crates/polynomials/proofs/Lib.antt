@@ -1,5 +1,4 @@
 mod Numbers
-mod Steps
 mod StepLaws
 mod Masks
 mod Products

@@ -63,3 +63,7 @@ same_numbers k a b la lb = at (eqb a b) (same_coefficients k (coefficients k a) 
     at false false e f = e ∙ sym f
     at false true e f =
         absurd (eqb-false a b e (known_by_coefficients k a b la lb (same_yes k (coefficients k a) (coefficients k b) f)))
+
+-- the same of a test known to be that of the numbers
+pub tells_same_coefficients : (t : Bool) (a b : ℕ) → a < 2 ^ 64 → b < 2 ^ 64 → t ≡ eqb a b → t ≡ same_coefficients 6 (coefficients 6 a) (coefficients 6 b)
+tells_same_coefficients t a b la lb e = e ∙ same_numbers 6 a b la lb

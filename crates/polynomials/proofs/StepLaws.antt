@@ -3,7 +3,7 @@ use Rattle.std.proofs.Common.{◌≡◌, ℕ, zero, suc, ◌≤◌, Bool, true, 
 use Rattle.std.proofs.lemmas.Bool.{eq-eqb, ne_eqb}
 use Rattle.values.specs.Bits.{xor, xor_zero, xor_comm}
 use Rattle.polynomials.specs.Polynomials.{VariableSet, Coefficients, subset_sums}
-use Rattle.polynomials.proofs.Steps.{contains, without, add_without}
+use Rattle.polynomials.specs.Steps.{contains, without, add_without}
 use Rattle.polynomials.specs.PolynomialLaws.{low, high, sums_low}
 
 -- the step for each variable below n

@@ -2,7 +2,7 @@ ghost use Rattle.std.specs.Prelude.{◌≡◌};
 ghost use Rattle.polynomials.specs.PolynomialLaws.{polynomials};
 ghost use Rattle.polynomials.specs.Polynomials.{Coefficients, coefficients as coefficients_of};
 
-use crate::words::subset_sums;
+use crate::words::{subset_sums, sums_of_product};
 use values::Algebra;
 
 // A polynomial in six variables: bit s is the coefficient of the product of the variables in the binary set s.
@@ -40,18 +40,19 @@ impl Algebra for Polynomial {
         Polynomial::new(1)
     }
 
+    #[tactic(auto, using(crate::proofs::Products::is_the_sum))]
     fn sum(self, other: Polynomial) -> Polynomial {
         Polynomial::new(self.coefficients ^ other.coefficients)
     }
 
-    // Subset sums are the values at the points, so those of a product are the products of the factors' own; and the
-    // subset sums of subset sums are the coefficients.
+    // The subset sums of subset sums are the coefficients.
     fn product(self, other: Polynomial) -> Polynomial {
-        let values = subset_sums(self.coefficients) & subset_sums(other.coefficients);
+        let values = sums_of_product(self.coefficients, other.coefficients);
         let coefficients = subset_sums(values);
         Polynomial::new(coefficients)
     }
 
+    #[tactic(auto, using(crate::proofs::Numbers::tells_same_coefficients))]
     fn same(self, other: Polynomial) -> bool {
         self == other
     }

@@ -1,7 +1,7 @@
 -- The gate at a place of a record, from its eight bytes.
-use Rattle.std.proofs.Common.{◌≡◌, ℕ, zero, suc, ◌<◌, true, ◌&&◌, eqb, List, [], ◌∷◌, length, get_or, Some, None, Option, sym, refl, ap, ◌∙◌, ⊎_elim, arith}
+use Rattle.std.proofs.Common.{◌≡◌, ℕ, zero, suc, ◌+◌, ◌-◌, ◌*◌, ◌<◌, ◌≤◌, true, ◌&&◌, eqb, List, [], ◌∷◌, length, take, drop, get_or, Some, None, Option, sym, refl, ap, ◌∙◌, ⊎_elim, arith}
 use Rattle.std.proofs.lemmas.List.{get_or_push, get_or_append_left}
-use Rattle.std.proofs.lemmas.Option.{slice_get-get_or}
+use Rattle.std.proofs.lemmas.Option.{slice_get-get_or, slice_get_past}
 use Rattle.std.proofs.lemmas.Bool.{and_parts, cases_lt}
 use Rattle.std.proofs.lemmas.Bool.Decides.{nat_tests}
 use Rattle.std.specs.List.{slice_get}
@@ -10,6 +10,7 @@ use Rattle.circuit.specs.declared.Gate.TheVariants.{Not}
 use Rattle.record.specs.Bytes.{parsed, parsed_kind, decoded, gate_of, block, gates_of, word}
 use Rattle.record.specs.Fitting.{fits, all_fit}
 use Rattle.record.specs.Blocks.{length_gates}
+use Rattle.record.specs.declared.record.Record.{Record}
 use Rattle.record.proofs.Cells.{cond_some}
 
 kind_gate : (k a b t : ℕ) (g : Gate) → parsed_kind k a b t ≡ Some g → gate_of k a b t ≡ g
@@ -48,3 +49,17 @@ pub held : (w n k : ℕ) (bs : List ℕ) → k < n → all_fit w n bs ≡ true �
 held w n k bs h e =
     fits_parsed w (block bs k) (fits_at w n k bs h e) ∙ ap Some (sym (gate_at n k bs h))
     ∙ sym (slice_get-get_or (gates_of n bs) k (Not 0) (omega (arith, length_gates n bs)))
+
+-- there is no gate past the last
+pub none_past_the_last : (s : Record) (k : ℕ) → s.count ≤ k → None ≡ slice_get (gates_of s.count s.buffer.now) k
+none_past_the_last s k h = sym (slice_get_past (gates_of s.count s.buffer.now) k (omega (arith, length_gates s.count s.buffer.now)))
+
+-- what the eight bytes of a gate held stand for is that gate
+pub is_the_gate_held : (s : Record) (k r : ℕ) (o : Option Gate) → k < s.count → r ≡ k
+    → o ≡ parsed (take (8 * r + 8 - 8 * r) (drop (8 * r) s.buffer.now))
+    → o ≡ slice_get (gates_of s.count s.buffer.now) k
+is_the_gate_held s k r o h q e =
+    let l : 8 * r + 8 - 8 * r ≡ 8 = omega arith in
+    e ∙ ap (λ m. parsed (take m (drop (8 * r) s.buffer.now))) l
+    ∙ ap (λ m. parsed (block s.buffer.now m)) q
+    ∙ held s.width s.count k s.buffer.now h s.fit

@@ -4,3 +4,4 @@ pub mod Fitting
 pub mod Records
 pub mod Blocks
 pub mod RecordLaws
+pub mod Limits

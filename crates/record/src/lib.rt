@@ -1,11 +1,12 @@
 // A sink that keeps its gates in the caller's bytes.
 #![tactic(auto)]
 
-ghost use Rattle.std.specs.Prelude.{◌≡◌, length, Ok, Err, MatchResult};
+ghost use Rattle.std.specs.Prelude.{◌≡◌, length, Ok, Err, IfOk, MatchResult};
 ghost use Rattle.std.specs.List.{slice_get};
 ghost use Rattle.record.specs.Making.{checked};
 ghost use Rattle.record.specs.Records.{recorded, Empty, Made, Taken, Shut, gates};
 ghost use Rattle.record.specs.RecordLaws.{record_laws};
+ghost use Rattle.record.specs.Limits.{LimitsLast};
 
 mod bytes;
 mod record;
@@ -35,6 +36,7 @@ impl<'a> Record<'a> {
         ensures lends_the_buffer { result.buffer ≡ buffer.entry }
         ensures is_empty { Empty buffer.entry width result }
         ensures is_made { checked width (length buffer.old) ≡ Ok tt → Made buffer.entry width result }
+        ensures keeps_its_limits { checked width (length buffer.old) ≡ Ok tt → LimitsLast result }
     {
         let places = if Self::check(width, buffer.len()).is_ok() {
             // at most 65,535 by the check
@@ -56,6 +58,7 @@ impl<'a> Record<'a> {
     // and then `over`, since only a record that comes outright is known to lie in that buffer.
     pub fn new(buffer: &'a mut [u8], width: u16) -> Result<Record<'a>, MakeRefusal>
         ensures made_or_first_no { MatchResult result (λ s. Made buffer.entry width s × (checked width (length buffer.old) ≡ Ok tt)) (λ e. checked width (length buffer.old) ≡ Err e) }
+        ensures keeps_its_limits { IfOk result LimitsLast }
     {
         Self::check(width, buffer.len())?;
         Ok(Self::over(buffer, width))
@@ -70,6 +73,7 @@ impl<'a> Record<'a> {
     }
 
     // The gate at place k, counted from 0.
+    #[tactic(auto, using(crate::proofs::Held::none_past_the_last, crate::proofs::Held::is_the_gate_held))]
     pub fn gate(&self, k: u16) -> Option<Gate>
         ensures is_gate_at_k { result ≡ slice_get (gates self.now) k }
     {

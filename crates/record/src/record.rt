@@ -16,11 +16,11 @@ pub struct Record<'a> {
     pub(crate) t_count: u32,
     pub(crate) closed: bool,
     // the places are those that `check` allows in the buffer
-    ghost placed: { places ≡ places_at (checked width (length buffer.now)) (length buffer.now) },
+    pub ghost placed: { places ≡ places_at (checked width (length buffer.now)) (length buffer.now) },
     // each gate has a place
-    ghost room: { count ≤ places },
+    pub ghost room: { count ≤ places },
     // the T-count is that of the gates held
-    ghost exact: { t_count ≡ tcosts (gates_of count buffer.now) },
+    pub ghost exact: { t_count ≡ tcosts (gates_of count buffer.now) },
     // each gate held has lines below the width, no two the same
-    ghost fit: { all_fit width count buffer.now ≡ true },
+    pub ghost fit: { all_fit width count buffer.now ≡ true },
 }

@@ -7,6 +7,9 @@ use Rattle.refusals.specs.declared.offer.OfferRefusal.{OfferRefusal}
 use Rattle.refusals.specs.declared.offer.OfferRefusal.TheVariants.{LineOutside, LinesRepeat, NoPlace}
 use Rattle.sinks.specs.Questions.{judged}
 
+never : (x : OfferRefusal) → ◌≡◌ {A = Result (Unit {0}) OfferRefusal} (Err x) (Ok tt) → ⊥
+never x e = cc
+
 -- the answer by its three tests
 by_parts : (i a z : Bool) → ◌≡◌ {A = Result (Unit {0}) OfferRefusal} (cond i (cond a (cond z (Err NoPlace) (Ok tt)) (Err LinesRepeat)) (Err LineOutside)) (Ok tt)
     → (i ≡ true) × (a ≡ true) × (z ≡ false)

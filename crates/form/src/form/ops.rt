@@ -4,7 +4,6 @@ ghost use Rattle.form.specs.Shapes.{shape, zero_form, element_form, xor_form, in
 
 use super::Form;
 use std::alloc::{AllocError, Global};
-use std::cmp::Ordering;
 
 // The elements in just one of two ascending slices, ascending.
 fn merge(heap: Global, mut a: &[u16], mut b: &[u16]) -> Result<Vec<u16>, AllocError>
@@ -14,20 +13,20 @@ fn merge(heap: Global, mut a: &[u16], mut b: &[u16]) -> Result<Vec<u16>, AllocEr
     ensures ascends { IfOk result (λ v. ascending v.items ≡ true) }
 {
     let mut out = Vec::with_capacity(heap, a.len().saturating_add(b.len()))?;
-    while let (Some((x, more_a)), Some((y, more_b))) = (a.split_first(), b.split_first()) {
-        match x.cmp(y) {
-            Ordering::Less => {
-                out.push(*x)?;
-                a = more_a;
-            }
-            Ordering::Greater => {
-                out.push(*y)?;
-                b = more_b;
-            }
-            Ordering::Equal => {
-                a = more_a;
-                b = more_b;
-            }
+    // one side at a time: a pair of both made each step twice as dear
+    while let Some((x, more_a)) = a.split_first() {
+        let Some((y, more_b)) = b.split_first() else {
+            break;
+        };
+        if x < y {
+            out.push_reserved(*x);
+            a = more_a;
+        } else if y < x {
+            out.push_reserved(*y);
+            b = more_b;
+        } else {
+            a = more_a;
+            b = more_b;
         }
     }
     out.extend_from_slice(a)?;

@@ -197,6 +197,7 @@ impl Draft {
     }
 
     // Marks a wire as the next output, and answers that output's number.
+    #[tactic(auto, using(crate::proofs::Counts::outputs_still_exist))]
     pub fn output(&mut self, w: u16) -> Result<u16, DraftRefusal>
         ensures marks_or_answers_first_no { Marked (drafted self.old) w result (drafted self.new) }
     {

@@ -33,7 +33,11 @@ impl<'a> Iterator for Scanner<'a> {
     #[tactic(auto, using(crate::proofs::Parts::parts, crate::proofs::Pieces::no_piece))]
     fn next(&mut self) -> Option<Token<'a>> {
         let rest = &self.source[self.at..];
-        let gap = rest.iter().position(|b| !is_separator(*b))?;
+        let Some(gap) = rest.iter().position(|b| !is_separator(*b)) else {
+            // so that a further call does not read the separators again
+            self.at = self.source.len();
+            return None;
+        };
         let word = &rest[gap..];
         let len = word
             .iter()

@@ -6,10 +6,10 @@ use Rattle.scan.proofs.Parts.{parts}
 use Rattle.scan.proofs.Pieces.{next_piece}
 use Rattle.scan.proofs.scanner.ops.ScannerIterator.next.Goals as goal
 
-taken : (c : goal.After-new) → let k = c.args.self.now.at + c.in_ok-gap.gap + c.unwrap_or-len.result in left c.args.self.now ≡ piece c.new.result ∷ cut k [] (drop k c.args.self.now.source.now)
+taken : (c : goal.After-new) → let k = c.args.self.now.at + c.in-Some.gap + c.unwrap_or-len.result in left c.args.self.now ≡ piece c.new.result ∷ cut k [] (drop k c.args.self.now.source.now)
 taken c =
     rw c.new.ensures.is_the_part
-    (next_piece c.args.self.now.at c.in_ok-gap.gap c.unwrap_or-len.result c.args.self.now.source.now (search rules) (λ i h. search rules) (search rules) (search rules) (λ i h. search rules) (λ h. search rules))
+    (next_piece c.args.self.now.at c.in-Some.gap c.unwrap_or-len.result c.args.self.now.source.now (search rules) (λ i h. search rules) (search rules) (search rules) (λ i h. search rules) (λ h. search rules))
 
 pub returns-clause-steps : goal.returns-clause-steps
 returns-clause-steps c =

@@ -1,4 +1,4 @@
--- How subset sums are computed: one variable after the other.
+-- How subset sums are computed: one variable after the other. Only contracts of private functions name these.
 use Rattle.std.specs.Prelude.{ℕ, zero, suc, Bool, false, cond, ◌&&◌, ◌==◌}
 use Rattle.values.specs.Bits.{xor}
 use Rattle.polynomials.specs.Polynomials.{VariableSet, Coefficients}
